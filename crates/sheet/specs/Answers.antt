@@ -1,0 +1,19 @@
+-- The answers of the code as values of the document.
+use mathlib.Core.Bool.{cond}
+use Prim.Native.Nat.{ℕ}
+use lib.ListN.{length}
+use Rattle.sheet.specs.Literals.{plain, atom, literal, isLiteral}
+use Rattle.sheet.specs.Reading.{Reading, refused, understood}
+use Rattle.sheet.specs.declared.Checked.{Checked}
+use Rattle.sheet.specs.declared.Checked.the-variants.{Refused, Accepted}
+use Rattle.sheet.specs.declared.literal.Literal.{Literal}
+use Rattle.sheet.specs.declared.literal.Literal.the-variants.{Of, Neither}
+
+-- "that call answers 10 to 15, or n, m and k"
+abbrev pub answer : Reading → Checked
+answer (refused c) = Refused c
+answer (understood x) = Accepted (x .atoms) (length (x .clauses)) (length (x .objectives))
+
+-- the literal of a byte among n atoms, if it is one
+abbrev pub literalAnswer : ℕ → ℕ → Literal
+literalAnswer n b = cond (isLiteral n b) (Of (plain (literal b)) (atom (literal b))) Neither

@@ -1,0 +1,6 @@
+pub mod Literals
+pub mod Layout
+pub mod Reading
+pub mod Answers
+pub mod Order
+pub mod Passed

@@ -1,0 +1,5 @@
+-- What the proofs of several functions use, in this crate and above it.
+pub mod Bools
+pub mod Lists
+pub mod Bits
+pub mod Containment

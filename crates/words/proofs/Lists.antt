@@ -1,0 +1,96 @@
+-- Tests over lists, one entry after the other, as a loop goes through them. Assumes nothing.
+use mathlib.Core.Path.{_≡_, refl, sym, ap, _∙_, subst}
+use mathlib.Core.Bool.{Bool, true, false, false≢true}
+use mathlib.Core.List.{List, [], _∷_, _++_}
+use Prim.Native.Nat.{ℕ, zero, suc, _+_, _≤_, _<_}
+use mathlib.Core.Logic.{⊎-elim}
+use native.Mathlib.Nat.{eq-or-lt-of-le, le-of-suc-le-suc}
+use native.Mathlib.Numerals.{add-one}
+use native.Mathlib.Omega.{arith}
+use lib.ListN.{length, getD, drop, length-append, drop-of-length-le, List·getD-append}
+use lib.Seq.{drop-cons, getD-at}
+use lib.Dec.{T}
+use Rattle.words.specs.Tests.{any, all, below}
+
+-- the rest of a list from i on: its entry i, and what follows
+pub onward : {A : Type 0} (d : A) (xs : List A) (i : ℕ) → i < length xs → drop i xs ≡ getD xs i d ∷ drop (i + 1) xs
+onward d xs i h = drop-cons xs i d h ∙ ap (λ (k : ℕ). getD xs i d ∷ drop k xs) (sym (add-one i))
+
+module _ {A : Type 0} (f : A → Bool) (d : A) (xs : List A) (i : ℕ) where
+  pub any-next : {b : Bool} → i < length xs → f (getD xs i d) ≡ b → any f (drop i xs) ≡ elim b [ true ↦ true | false ↦ any f (drop (i + 1) xs) ]
+  any-next h e =
+      ap (any f) (onward d xs i h) ∙ ap (λ (b : Bool). elim b as (λ _. Bool) [ true ↦ true | false ↦ any f (drop (i + 1) xs) ]) e
+
+  pub any-end : length xs ≤ i → any f (drop i xs) ≡ false
+  any-end h = ap (any f) (drop-of-length-le xs h)
+
+  pub all-next : {b : Bool} → i < length xs → f (getD xs i d) ≡ b → all f (drop i xs) ≡ elim b [ true ↦ all f (drop (i + 1) xs) | false ↦ false ]
+  all-next h e =
+      ap (all f) (onward d xs i h) ∙ ap (λ (b : Bool). elim b as (λ _. Bool) [ true ↦ all f (drop (i + 1) xs) | false ↦ false ]) e
+
+  pub all-end : length xs ≤ i → all f (drop i xs) ≡ true
+  all-end h = ap (all f) (drop-of-length-le xs h)
+
+-- ---- the numbers below n
+
+pub length-below : (n : ℕ) → length (below n) ≡ n
+unfolding below
+length-below zero = refl
+length-below (suc n) = length-append (below n) (n ∷ []) ∙ ap (λ (k : ℕ). k + 1) (length-below n) ∙ add-one n
+
+pub getD-below : (n i : ℕ) → i < n → getD (below n) i 0 ≡ i
+unfolding below
+getD-below zero i h = absurd (omega arith)
+getD-below (suc n) i h = ⊎-elim last (λ l. earlier l (getD-below n i l)) (eq-or-lt-of-le (le-of-suc-le-suc h))
+  where
+    last : i ≡ n → getD (below n ++ (n ∷ [])) i 0 ≡ i
+    last e = getD-at (below n) n [] 0 i (length-below n ∙ sym e) ∙ sym e
+
+    earlier : i < n → getD (below n) i 0 ≡ i → getD (below n ++ (n ∷ [])) i 0 ≡ i
+    earlier l e = List·getD-append (below n) (n ∷ []) 0 i (subst (λ (k : ℕ). i < k) (sym (length-below n)) l) ∙ e
+
+module _ (f : ℕ → Bool) (n i : ℕ) where
+  in-below : i < n → i < length (below n)
+  in-below h = subst (λ (k : ℕ). i < k) (sym (length-below n)) h
+
+  past-below : n ≤ i → length (below n) ≤ i
+  past-below h = subst (λ (k : ℕ). k ≤ i) (sym (length-below n)) h
+
+  pub any-number : {b : Bool} → i < n → f i ≡ b → any f (drop i (below n)) ≡ elim b [ true ↦ true | false ↦ any f (drop (i + 1) (below n)) ]
+  any-number h e = any-next f 0 (below n) i (in-below h) (ap f (getD-below n i h) ∙ e)
+
+  pub any-numbers-end : n ≤ i → any f (drop i (below n)) ≡ false
+  any-numbers-end h = any-end f 0 (below n) i (past-below h)
+
+  pub all-number : {b : Bool} → i < n → f i ≡ b → all f (drop i (below n)) ≡ elim b [ true ↦ all f (drop (i + 1) (below n)) | false ↦ false ]
+  all-number h e = all-next f 0 (below n) i (in-below h) (ap f (getD-below n i h) ∙ e)
+
+  pub all-numbers-end : n ≤ i → all f (drop i (below n)) ≡ true
+  all-numbers-end h = all-end f 0 (below n) i (past-below h)
+
+-- ---- a test of all entries, entry by entry
+
+module _ {A : Type 0} (f : A → Bool) (d : A) where
+  pub all-says : (xs : List A) → all f xs ≡ true → (i : ℕ) → i < length xs → f (getD xs i d) ≡ true
+  all-says [] e i h = absurd (omega arith)
+  all-says (x ∷ xs) e i h = go (f x) refl e (all-says xs) i h
+    where
+      go : (b : Bool) → f x ≡ b → elim b [ true ↦ all f xs | false ↦ false ] ≡ true
+          → (all f xs ≡ true → (i : ℕ) → i < length xs → f (getD xs i d) ≡ true) → (i : ℕ) → i < suc (length xs) → f (getD (x ∷ xs) i d) ≡ true
+      go true h e later zero lt = h
+      go true h e later (suc i) lt = later e i (le-of-suc-le-suc lt)
+      go false h e later i lt = absurd (false≢true e)
+
+  pub all-holds : (xs : List A) → ((i : ℕ) → i < length xs → f (getD xs i d) ≡ true) → all f xs ≡ true
+  all-holds [] each = refl
+  all-holds (x ∷ xs) each = rw (each 0 (omega arith), all) (all-holds xs (λ i h. each (suc i) (omega arith)))
+
+-- the same for the numbers below n
+module _ (f : ℕ → Bool) (n : ℕ) where
+  pub numbers-all : all f (below n) ≡ true → (i : ℕ) → i < n → f i ≡ true
+  numbers-all e i h = ap f (sym (getD-below n i h)) ∙ all-says f 0 (below n) e i (in-below f n i h)
+
+  pub all-numbers : ((i : ℕ) → i < n → f i ≡ true) → all f (below n) ≡ true
+  all-numbers each =
+      all-holds f 0 (below n)
+      (λ i h. let lt : i < n = subst (λ (k : ℕ). i < k) (length-below n) h in ap f (getD-below n i lt) ∙ each i lt)

@@ -1,0 +1,25 @@
+-- Tests over lists, each of which stops at the first entry that decides it, and the lists of numbers that they go through.
+use mathlib.Core.Bool.{Bool, true, false}
+use mathlib.Core.List.{List, [], _∷_, _++_}
+use Prim.Native.Nat.{ℕ, zero, suc}
+
+module _ {A : Type 0} where
+  -- some entry passes
+  abbrev pub any : (A → Bool) → List A → Bool
+  any f [] = false
+  any f (x ∷ xs) = elim (f x) [ true ↦ true | false ↦ any f xs ]
+
+  -- every entry passes
+  abbrev pub all : (A → Bool) → List A → Bool
+  all f [] = true
+  all f (x ∷ xs) = elim (f x) [ true ↦ all f xs | false ↦ false ]
+
+  -- the entries that pass, in order
+  abbrev pub pick : (A → Bool) → List A → List A
+  pick f [] = []
+  pick f (x ∷ xs) = elim (f x) [ true ↦ x ∷ pick f xs | false ↦ pick f xs ]
+
+-- 0, 1, 2 and so on: n numbers
+unfoldable pub below : ℕ → List ℕ
+below zero = []
+below (suc n) = below n ++ (n ∷ [])

@@ -1,0 +1,66 @@
+//! The arguments of the program.
+
+use crate::families;
+
+const DEFAULT_SEED: u64 = 20_180_101;
+
+#[derive(Clone, Copy, Debug, PartialEq, Eq)]
+pub struct Options {
+    pub seed: u64,
+    pub sheets: u64,
+}
+
+impl Options {
+    pub fn from_arguments(arguments: impl Iterator<Item = String>) -> Result<Options, String> {
+        let mut options = Options {
+            seed: DEFAULT_SEED,
+            sheets: families::default_sheets(),
+        };
+        let mut arguments = arguments;
+        while let Some(name) = arguments.next() {
+            let target = match name.as_str() {
+                "--seed" => &mut options.seed,
+                "--sheets" => &mut options.sheets,
+                _ => return Err(format!("unknown argument {name}")),
+            };
+            let value = arguments.next().ok_or(format!("{name} takes a number"))?;
+            *target = value
+                .parse()
+                .map_err(|_| format!("{name} takes a number, not {value}"))?;
+        }
+        Ok(options)
+    }
+}
+
+#[cfg(test)]
+mod tests {
+    use super::Options;
+
+    fn options(arguments: &[&str]) -> Result<Options, String> {
+        Options::from_arguments(arguments.iter().map(|text| text.to_string()))
+    }
+
+    #[test]
+    fn the_default_run_is_long_enough() {
+        assert!(options(&[]).unwrap().sheets >= 240_000);
+    }
+
+    #[test]
+    fn both_numbers_can_be_given() {
+        let given = options(&["--sheets", "12", "--seed", "7"]);
+        assert_eq!(
+            given,
+            Ok(Options {
+                seed: 7,
+                sheets: 12
+            })
+        );
+    }
+
+    #[test]
+    fn anything_else_is_refused() {
+        for wrong in [&["--seed"][..], &["--seed", "x"], &["7"]] {
+            assert!(options(wrong).is_err());
+        }
+    }
+}
