@@ -69,8 +69,11 @@ fn hex(bytes: &[u8]) -> String {
         return groups(bytes);
     }
     let (before, repeated) = bytes.split_at(bytes.len() - run);
-    let (before, byte) = (groups(before), repeated[0]);
-    format!("{before} then {run} times {byte:02X}")
+    let run = format!("{run} times {:02X}", repeated[0]);
+    if before.is_empty() {
+        return run;
+    }
+    format!("{} then {run}", groups(before))
 }
 
 /// Four bytes to a group, as the words of the header stand.
@@ -95,6 +98,7 @@ mod tests {
     fn a_long_run_at_the_end_is_counted() {
         let bytes = [&[7; 4][..], &[0; 500]].concat();
         assert_eq!(hex(&bytes), "07070707 then 500 times 00");
+        assert_eq!(hex(&[3; 65]), "65 times 03");
     }
 
     #[test]

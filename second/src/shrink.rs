@@ -4,10 +4,10 @@ use crate::parts::Part;
 use crate::sheet::{HEADER_BYTES, WORD_BYTES};
 use std::ops::Range;
 
-/// A difference is worth some seconds, not the whole run. Each step has trials of its own,
-/// so that one without success in a long sheet leaves some to the next.
-const TRIALS_PER_STEP: u32 = 30_000;
-const MOST_ROUNDS: u32 = 8;
+/// A difference is worth some seconds, not the whole run, and a step without success
+/// in a long sheet has to leave some trials to the next.
+const TRIALS_PER_STEP: u32 = 20_000;
+const MOST_TRIALS: u32 = 100_000;
 
 /// Whole parts first: what remains then still looks like a sheet.
 const STEPS: [fn(&mut Search); 8] = [
@@ -27,17 +27,19 @@ pub fn shrink(bytes: &[u8], still_differ: &dyn Fn(&[u8]) -> bool) -> Vec<u8> {
         still_differ,
         trials_left: 0,
     };
-    for _ in 0..MOST_ROUNDS {
+    let mut trials_left = MOST_TRIALS;
+    loop {
         let before = search.smallest.clone();
         for step in STEPS {
-            search.trials_left = TRIALS_PER_STEP;
+            let given = trials_left.min(TRIALS_PER_STEP);
+            search.trials_left = given;
             step(&mut search);
+            trials_left -= given - search.trials_left;
         }
         if search.smallest == before {
-            break;
+            return before;
         }
     }
-    search.smallest
 }
 
 struct Search<'a> {

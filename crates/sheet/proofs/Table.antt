@@ -6,8 +6,8 @@ use Prim.Native.Nat.{ℕ, suc, _+_, _≤_, _<_}
 use native.Mathlib.Numerals.{add-one}
 use lib.Dec.{ltb, eqb}
 use lib.ListN.{length}
-use borrow.Author.Tests.{lt-ltb, le-ltb, eqb-true, not-false}
-use Rattle.words.specs.Tests.{any, below}
+use borrow.Author.Tests.{lt-ltb, le-ltb, ltb-false, eqb-true, not-false}
+use Rattle.words.specs.Lists.{any, below}
 use Rattle.words.proofs.Bools.{or-split}
 use Rattle.sheet.specs.Literals.{between}
 use Rattle.sheet.specs.Layout.{header, atomCount, clauseCount, objectiveCount, literalCount, endsAt, literalsAt, objectivesAt, totalBytes, clauseStart, clauseEnd, objectiveBytes}
@@ -74,6 +74,10 @@ module _ (s : List ℕ) where
   pub short-no : 32 ≤ length s → short s ≡ false
   unfolding short
   short-no h = le-ltb (length s) 32 h
+
+  pub short-says : short s ≡ false → 32 ≤ length s
+  unfolding short
+  short-says e = ltb-false (length s) 32 e
 
   -- the reading, where each row is known to apply or not
   abbrev pub readBy : (a b c d e f : Bool) → Reading

@@ -3,7 +3,7 @@ use mathlib.Core.Bool.{Bool, true, false, not}
 use mathlib.Core.List.{List, [], _∷_, _++_, map}
 use Prim.Native.Nat.{ℕ, suc, _-_}
 use lib.Dec.{eqb}
-use Rattle.words.specs.Tests.{any, pick, below}
+use Rattle.words.specs.Lists.{any, pick, below}
 use Rattle.words.specs.Positions.{setOf}
 use Rattle.sheet.specs.Literals.{Lit, pos, atom, plain}
 use Rattle.sheet.specs.Reading.{Sheet}

@@ -5,7 +5,7 @@ use mathlib.Core.List.{List, [], _∷_, map}
 use Prim.Native.Nat.{ℕ, _+_}
 use lib.Dec.{ltb, eqb}
 use lib.ListN.{length}
-use Rattle.words.specs.Tests.{any, below}
+use Rattle.words.specs.Lists.{any, below}
 use Rattle.sheet.specs.Literals.{Lit, literal, between, isLiteral}
 use Rattle.sheet.specs.Layout.{byte, header, atomCount, clauseCount, objectiveCount, literalCount, endsAt, literalsAt, objectivesAt, totalBytes, clauseStart, clauseEnd, clauseBytes, literalBytes, objectiveBytes}
 

@@ -2,7 +2,7 @@
 ghost use mathlib.Core.Path.{_≡_};
 ghost use Prim.Native.Nat.{_≤_};
 ghost use lib.ListN.{length};
-ghost use Rattle.words.specs.Tests.{any};
+ghost use Rattle.words.specs.Lists.{any};
 ghost use Rattle.sheet.specs.Layout.{atomCount, objectiveBytes};
 ghost use Rattle.sheet.specs.Reading.{outOfRange, misplaced as isMisplaced, badEnds, noLiteral, badLiteral, badObjective};
 ghost use Rattle.sheet.specs.Passed.{Counted, Placed};

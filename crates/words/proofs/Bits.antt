@@ -1,6 +1,7 @@
 -- From words to positions and back: what `and`, `or`, a power of two and one position more do to each position. Assumes nothing.
 use mathlib.Core.Path.{_≡_, refl, sym, ap, _∙_, subst}
 use mathlib.Core.Bool.{Bool, true, false, cond, _&&_, _||_, false≢true}
+use mathlib.Core.List.{List, [], _∷_}
 use Prim.Native.Nat.{ℕ, zero, suc, _+_, _-_, _*_, _/_, _%_, _^_, _≤_, _<_, min, max}
 use native.Mathlib.Nat.{div-one, one-mul, lt-of-lt-of-le, div-eq-of-lt}
 use native.Mathlib.Omega.{arith}
@@ -9,8 +10,9 @@ use lib.Pow.{pow-mono, pow-lt, shl-exact, shr-shr, shr-le}
 use lib.Bits.{bitAnd, bitOr, and-step, or-step, and-shr, or-shr, or-lt, or-disjoint, shifted-half, shifted-even}
 use lib.Dec.{eqb, eqb·suc-suc, eqb·suc-zero, eqb·zero-suc, lit<}
 use borrow.Author.Tests.{ne-eqb, eqb-true}
-use Rattle.words.specs.Positions.{has, adding}
-use Rattle.words.proofs.Bools.{or-false, and-false}
+use Rattle.words.specs.Lists.{any}
+use Rattle.words.specs.Positions.{has, adding, setOf}
+use Rattle.words.proofs.Bools.{or-true, or-false, and-false}
 
 -- ---- a bit is 0 or 1
 
@@ -144,3 +146,13 @@ has-adding w i j = ap (λ (x : ℕ). has x j) (sym (or-power w i)) ∙ has-or w 
 
 pub adding-fits : (w i : ℕ) → w < 2 ^ 64 → i < 64 → adding w i < 2 ^ 64
 adding-fits w i h k = subst (λ (x : ℕ). x < 2 ^ 64) (or-power w i) (or-lt 64 w (2 ^ i) h (pow-lt k))
+
+-- the positions of the set of a list are those of the list
+pub has-setOf : (is : List ℕ) (j : ℕ) → has (setOf is) j ≡ any (eqb j) is
+unfolding setOf
+has-setOf [] j = has-none j
+has-setOf (i ∷ is) j = has-adding (setOf is) i j ∙ go (eqb j i) refl (has-setOf is j)
+  where
+    go : (b : Bool) → eqb j i ≡ b → has (setOf is) j ≡ any (eqb j) is → (has (setOf is) j || eqb j i) ≡ any (eqb j) (i ∷ is)
+    go true e later = ap (λ (b : Bool). has (setOf is) j || b) e ∙ or-true (has (setOf is) j) ∙ rw (e, any)
+    go false e later = ap (λ (b : Bool). has (setOf is) j || b) e ∙ or-false (has (setOf is) j) ∙ later ∙ rw (e, any)

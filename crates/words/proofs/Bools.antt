@@ -1,5 +1,6 @@
 -- Tests joined by `and`, `or` and `not`. Assumes nothing.
 use mathlib.Core.Path.{_≡_, refl, sym}
+use mathlib.Core.Logic.{_⊎_, inl, inr}
 use mathlib.Core.Bool.{Bool, true, false, not, _&&_, _||_, false≢true}
 
 -- two tests that follow from one another are equal
@@ -20,6 +21,10 @@ pub and-absorbs : (a b : Bool) → (a ≡ true → b ≡ true) → (a && b) ≡ 
 and-absorbs true b f = f refl
 and-absorbs false b f = refl
 
+pub or-true : (b : Bool) → (b || true) ≡ true
+or-true true = refl
+or-true false = refl
+
 pub or-false : (b : Bool) → (b || false) ≡ b
 or-false true = refl
 or-false false = refl
@@ -36,3 +41,7 @@ implied false b e h = absurd (false≢true h)
 pub implies : (a b : Bool) → (a ≡ true → b ≡ true) → (not a || b) ≡ true
 implies true b f = f refl
 implies false b f = refl
+
+pub or-cases : (a b : Bool) → (a || b) ≡ true → (a ≡ true) ⊎ (b ≡ true)
+or-cases true b e = inl refl
+or-cases false b e = inr e

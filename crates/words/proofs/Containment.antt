@@ -7,19 +7,20 @@ use native.Mathlib.Decide.{decLt}
 use lib.Bits.{bitAnd}
 use lib.Dec.{eqb}
 use borrow.Author.Tests.{eq-eqb, eqb-true}
+use Rattle.words.specs.Lists.{below}
 use Rattle.words.specs.Positions.{has, within}
 use Rattle.words.proofs.Bools.{same-test, and-split, and-absorbs, implied, implies}
-use Rattle.words.proofs.Lists.{numbers-all, all-numbers}
+use Rattle.words.proofs.Members.{all-in, all-out, in-below, below-in}
 use Rattle.words.proofs.Bits.{has-and, has-past, same-positions}
 
 module _ (a b : ℕ) where
   pub within-says : within a b ≡ true → (i : ℕ) → i < 64 → has a i ≡ true → has b i ≡ true
   unfolding within
-  within-says e i h = implied (has a i) (has b i) (numbers-all (λ i. not (has a i) || has b i) 64 e i h)
+  within-says e i h = implied (has a i) (has b i) (all-out (λ i. not (has a i) || has b i) (below 64) e i (in-below 64 i h))
 
   pub within-holds : ((i : ℕ) → i < 64 → has a i ≡ true → has b i ≡ true) → within a b ≡ true
   unfolding within
-  within-holds each = all-numbers (λ i. not (has a i) || has b i) 64 (λ i h. implies (has a i) (has b i) (each i h))
+  within-holds each = all-in (λ i. not (has a i) || has b i) (below 64) (λ i h. implies (has a i) (has b i) (each i (below-in 64 i h)))
 
   -- a word that lies within another is its own intersection with it
   pub within-and : a < 2 ^ 64 → within a b ≡ eqb (bitAnd a b) a

@@ -1,16 +1,15 @@
 -- Tests over lists, one entry after the other, as a loop goes through them. Assumes nothing.
 use mathlib.Core.Path.{_≡_, refl, sym, ap, _∙_, subst}
-use mathlib.Core.Bool.{Bool, true, false, false≢true}
-use mathlib.Core.List.{List, [], _∷_, _++_}
+use mathlib.Core.Bool.{Bool, true, false}
+use mathlib.Core.List.{List, [], _∷_, _++_, map, map-append}
 use Prim.Native.Nat.{ℕ, zero, suc, _+_, _≤_, _<_}
 use mathlib.Core.Logic.{⊎-elim}
 use native.Mathlib.Nat.{eq-or-lt-of-le, le-of-suc-le-suc}
 use native.Mathlib.Numerals.{add-one}
 use native.Mathlib.Omega.{arith}
-use lib.ListN.{length, getD, drop, length-append, drop-of-length-le, List·getD-append}
-use lib.Seq.{drop-cons, getD-at}
-use lib.Dec.{T}
-use Rattle.words.specs.Tests.{any, all, below}
+use lib.ListN.{length, getD, drop, set, length-append, drop-of-length-le, List·getD-append}
+use lib.Seq.{drop-cons, getD-at, set-at, append-snoc}
+use Rattle.words.specs.Lists.{any, all, below}
 
 -- the rest of a list from i on: its entry i, and what follows
 pub onward : {A : Type 0} (d : A) (xs : List A) (i : ℕ) → i < length xs → drop i xs ≡ getD xs i d ∷ drop (i + 1) xs
@@ -50,47 +49,30 @@ getD-below (suc n) i h = ⊎-elim last (λ l. earlier l (getD-below n i l)) (eq-
     earlier l e = List·getD-append (below n) (n ∷ []) 0 i (subst (λ (k : ℕ). i < k) (sym (length-below n)) l) ∙ e
 
 module _ (f : ℕ → Bool) (n i : ℕ) where
-  in-below : i < n → i < length (below n)
-  in-below h = subst (λ (k : ℕ). i < k) (sym (length-below n)) h
+  still-below : i < n → i < length (below n)
+  still-below h = subst (λ (k : ℕ). i < k) (sym (length-below n)) h
 
   past-below : n ≤ i → length (below n) ≤ i
   past-below h = subst (λ (k : ℕ). k ≤ i) (sym (length-below n)) h
 
   pub any-number : {b : Bool} → i < n → f i ≡ b → any f (drop i (below n)) ≡ elim b [ true ↦ true | false ↦ any f (drop (i + 1) (below n)) ]
-  any-number h e = any-next f 0 (below n) i (in-below h) (ap f (getD-below n i h) ∙ e)
+  any-number h e = any-next f 0 (below n) i (still-below h) (ap f (getD-below n i h) ∙ e)
 
   pub any-numbers-end : n ≤ i → any f (drop i (below n)) ≡ false
   any-numbers-end h = any-end f 0 (below n) i (past-below h)
 
   pub all-number : {b : Bool} → i < n → f i ≡ b → all f (drop i (below n)) ≡ elim b [ true ↦ all f (drop (i + 1) (below n)) | false ↦ false ]
-  all-number h e = all-next f 0 (below n) i (in-below h) (ap f (getD-below n i h) ∙ e)
+  all-number h e = all-next f 0 (below n) i (still-below h) (ap f (getD-below n i h) ∙ e)
 
   pub all-numbers-end : n ≤ i → all f (drop i (below n)) ≡ true
   all-numbers-end h = all-end f 0 (below n) i (past-below h)
 
--- ---- a test of all entries, entry by entry
+-- ---- a list that is filled from the front
 
-module _ {A : Type 0} (f : A → Bool) (d : A) where
-  pub all-says : (xs : List A) → all f xs ≡ true → (i : ℕ) → i < length xs → f (getD xs i d) ≡ true
-  all-says [] e i h = absurd (omega arith)
-  all-says (x ∷ xs) e i h = go (f x) refl e (all-says xs) i h
-    where
-      go : (b : Bool) → f x ≡ b → elim b [ true ↦ all f xs | false ↦ false ] ≡ true
-          → (all f xs ≡ true → (i : ℕ) → i < length xs → f (getD xs i d) ≡ true) → (i : ℕ) → i < suc (length xs) → f (getD (x ∷ xs) i d) ≡ true
-      go true h e later zero lt = h
-      go true h e later (suc i) lt = later e i (le-of-suc-le-suc lt)
-      go false h e later i lt = absurd (false≢true e)
+pub put-next : {A : Type 0} (xs d : List A) (i : ℕ) (v z : A) → length xs ≡ i → i < length d → set (xs ++ drop i d) i v ≡ (xs ++ (v ∷ [])) ++ drop (i + 1) d
+put-next xs d i v z e h =
+    ap (λ l. set (xs ++ l) i v) (onward z d i h) ∙ set-at xs (getD d i z) (drop (i + 1) d) v i e ∙ sym (append-snoc xs v (drop (i + 1) d))
 
-  pub all-holds : (xs : List A) → ((i : ℕ) → i < length xs → f (getD xs i d) ≡ true) → all f xs ≡ true
-  all-holds [] each = refl
-  all-holds (x ∷ xs) each = rw (each 0 (omega arith), all) (all-holds xs (λ i h. each (suc i) (omega arith)))
-
--- the same for the numbers below n
-module _ (f : ℕ → Bool) (n : ℕ) where
-  pub numbers-all : all f (below n) ≡ true → (i : ℕ) → i < n → f i ≡ true
-  numbers-all e i h = ap f (sym (getD-below n i h)) ∙ all-says f 0 (below n) e i (in-below f n i h)
-
-  pub all-numbers : ((i : ℕ) → i < n → f i ≡ true) → all f (below n) ≡ true
-  all-numbers each =
-      all-holds f 0 (below n)
-      (λ i h. let lt : i < n = subst (λ (k : ℕ). i < k) (length-below n) h in ap f (getD-below n i lt) ∙ each i lt)
+pub map-below-next : {B : Type 0} (f : ℕ → B) (i : ℕ) → map f (below (i + 1)) ≡ map f (below i) ++ (f i ∷ [])
+unfolding below
+map-below-next f i = ap (λ (k : ℕ). map f (below k)) (add-one i) ∙ map-append f (below i) (i ∷ [])

@@ -4,7 +4,7 @@ use mathlib.Core.List.{List, [], _∷_}
 use Prim.Native.Nat.{ℕ, _+_, _/_, _%_, _^_}
 use lib.Dec.{eqb}
 use lib.ListN.{length}
-use Rattle.words.specs.Tests.{all, pick, below}
+use Rattle.words.specs.Lists.{all, pick, below}
 
 -- position i is in the set w
 unfoldable pub has : ℕ → ℕ → Bool

@@ -5,7 +5,7 @@ use mathlib.Core.Logic.{⊎-elim}
 use native.Mathlib.Omega.{arith}
 use lib.ListN.{drop}
 use borrow.Author.Tests.{not-true, not-false}
-use Rattle.words.specs.Tests.{all, below}
+use Rattle.words.specs.Lists.{all, below}
 use Rattle.words.specs.Positions.{has, within}
 use Rattle.words.proofs.Lists.{all-number, all-numbers-end}
 use Rattle.words.proofs.within.Statement.{statement}

@@ -3,7 +3,7 @@ use mathlib.Core.Path.{_≡_, refl, sym, ap, _∙_}
 use mathlib.Core.Bool.{Bool, true, false, not}
 use native.Mathlib.Omega.{arith}
 use lib.ListN.{length, drop}
-use Rattle.words.specs.Tests.{any}
+use Rattle.words.specs.Lists.{any}
 use Rattle.words.proofs.Lists.{any-next, any-end}
 use Rattle.sheet.specs.Reading.{noLiteral}
 use Rattle.sheet.proofs.refusals.any_bad.Statement.{statement}

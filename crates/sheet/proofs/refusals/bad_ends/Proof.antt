@@ -5,7 +5,7 @@ use native.Mathlib.Omega.{arith}
 use lib.Dec.{ltb, eqb}
 use lib.ListN.{length, drop}
 use borrow.Author.Tests.{lt-ltb, le-ltb, eq-eqb, ne-eqb}
-use Rattle.words.specs.Tests.{any, below}
+use Rattle.words.specs.Lists.{any, below}
 use Rattle.words.proofs.Lists.{any-number, any-numbers-end}
 use Rattle.sheet.specs.Layout.{clauseCount, literalCount, clauseStart, clauseEnd}
 use Rattle.sheet.specs.Reading.{falls, badEnds}

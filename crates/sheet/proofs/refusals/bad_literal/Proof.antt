@@ -1,6 +1,6 @@
 use mathlib.Core.Path.{_∙_}
 use Prim.Native.Nat.{_+_, _*_}
-use Rattle.words.specs.Tests.{any}
+use Rattle.words.specs.Lists.{any}
 use Rattle.sheet.specs.Layout.{part}
 use Rattle.sheet.specs.Reading.{noLiteral, badLiteral}
 use borrow.Author.Needs.{needs}

@@ -1,6 +1,6 @@
--- Tests over lists, each of which stops at the first entry that decides it, and the lists of numbers that they go through.
+-- Lists: tests over them, each of which stops at the first entry that decides it, the numbers that are gone through, and when entries are distinct.
 use mathlib.Core.Bool.{Bool, true, false}
-use mathlib.Core.List.{List, [], _∷_, _++_}
+use mathlib.Core.List.{List, [], _∷_, _++_, List·Memᴰ as Mem}
 use Prim.Native.Nat.{ℕ, zero, suc}
 
 module _ {A : Type 0} where
@@ -23,3 +23,8 @@ module _ {A : Type 0} where
 unfoldable pub below : ℕ → List ℕ
 below zero = []
 below (suc n) = below n ++ (n ∷ [])
+
+-- no entry stands twice
+abbrev pub Distinct : {A : Type 0} → List A → Type 0
+Distinct [] = Unit {0}
+Distinct (x ∷ xs) = (Mem x xs → ⊥) × Distinct xs
