@@ -3,3 +3,4 @@ pub mod Literals
 pub mod Numbers
 pub mod Table
 pub mod Understood
+pub mod ClauseLaws

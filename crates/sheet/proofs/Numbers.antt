@@ -16,7 +16,7 @@ use Rattle.sheet.specs.declared.literal.Literal.{Literal}
 use Rattle.sheet.specs.declared.literal.Literal.the-variants.{Of, Neither}
 use Rattle.sheet.specs.Literals.{Lit, atom, plain, signed, ofNumber, literal, between, isLiteral}
 use Rattle.sheet.specs.Answers.{literalAnswer}
-use Rattle.sheet.proofs.Literals.{signed-low, signed-high, literal-atom, between-holds, between-past}
+use Rattle.sheet.proofs.Literals.{signed-low, signed-high, literal-atom, between-says, between-holds, between-past}
 
 -- ---- a byte from 128 on, less 256
 
@@ -139,3 +139,24 @@ module _ (n b : ℕ) {r : Literal} (e : r ≡ literalAnswer n b) where
       go : (x : Bool) → r ≡ cond x (Of (plain (literal b)) (atom (literal b))) Neither → false ≡ x
       go true e = absurd (let z : _≡_ {A = ℕ} 0 1 = cc in omega arith)
       go false e = refl
+
+-- what an answer that is a literal says of the byte
+module _ (n b : ℕ) (few : n ≤ 64) (small : b < 256) (lit : isLiteral n b ≡ true) {r : Literal} (e : r ≡ literalAnswer n b) {p : Bool} {a : ℕ} (f : r ≡ Of p a) where
+  told : Of p a ≡ Of (plain (literal b)) (atom (literal b))
+  told = sym f ∙ e ∙ ap (λ (x : Bool). cond x (Of (plain (literal b)) (atom (literal b))) Neither) lit
+
+  told-atom : a ≡ atom (literal b)
+  told-atom = let t = told in cc
+
+  told-sign : p ≡ plain (literal b)
+  told-sign = let t = told in cc
+
+  pub told-literal : literal b ≡ cond p (Lit.pos a) (Lit.neg a)
+  told-literal = by-parts (literal b) told-sign told-atom
+    where
+      by-parts : (l : Lit) {p : Bool} {a : ℕ} → p ≡ plain l → a ≡ atom l → l ≡ cond p (Lit.pos a) (Lit.neg a)
+      by-parts (Lit.pos k) ep ea = sym (λ i. cond (ep i) (Lit.pos (ea i)) (Lit.neg (ea i)))
+      by-parts (Lit.neg k) ep ea = sym (λ i. cond (ep i) (Lit.pos (ea i)) (Lit.neg (ea i)))
+
+  pub told-range : (1 ≤ a) × (a ≤ n)
+  told-range = between-says 1 n a (ap (between 1 n) told-atom ∙ sym (literal-atom n b few small) ∙ lit)

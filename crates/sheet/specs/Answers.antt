@@ -1,9 +1,12 @@
 -- The answers of the code as values of the document.
 use mathlib.Core.Bool.{cond}
+use mathlib.Core.List.{List}
 use Prim.Native.Nat.{ℕ}
 use lib.ListN.{length}
-use Rattle.sheet.specs.Literals.{plain, atom, literal, isLiteral}
+use Rattle.sheet.specs.Literals.{Lit, plain, atom, literal, isLiteral}
 use Rattle.sheet.specs.Reading.{Reading, refused, understood}
+use Rattle.sheet.specs.Order.{plains, negated}
+use Rattle.sheet.specs.declared.clauses.Clause.{Clause}
 use Rattle.sheet.specs.declared.Checked.{Checked}
 use Rattle.sheet.specs.declared.Checked.the-variants.{Refused, Accepted}
 use Rattle.sheet.specs.declared.literal.Literal.{Literal}
@@ -17,3 +20,7 @@ answer (understood x) = Accepted (x .atoms) (length (x .clauses)) (length (x .ob
 -- the literal of a byte among n atoms, if it is one
 abbrev pub literalAnswer : ℕ → ℕ → Literal
 literalAnswer n b = cond (isLiteral n b) (Of (plain (literal b)) (atom (literal b))) Neither
+
+-- a clause as the two sets of its atoms
+abbrev pub clauseOf : List Lit → Clause
+clauseOf c = record { plains = plains c; negated = negated c }

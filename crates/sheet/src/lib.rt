@@ -6,6 +6,7 @@ ghost use Rattle.sheet.specs.Answers.{answer};
 mod bytes;
 pub mod literal;
 mod refusals;
+pub mod clauses;
 
 
 // What the check of a sheet answers.

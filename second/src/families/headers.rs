@@ -6,7 +6,7 @@ use super::valid;
 use crate::draft::Draft;
 use crate::random::Random;
 use crate::sheet::{
-    Sheet, HEADER_BYTES, MAX_ATOMS, MAX_CLAUSES, MAX_LITERALS, MAX_OBJECTIVES, WORD_BYTES,
+    HEADER_BYTES, MAX_ATOMS, MAX_CLAUSES, MAX_LITERALS, MAX_OBJECTIVES, WORD_BYTES,
 };
 
 /// n, m, k, L in the order of the header.
@@ -76,8 +76,7 @@ pub fn one_size_with_offsets(_index: u64, random: &mut Random) -> Vec<u8> {
 
 /// Sizes far out of range whose offsets come round to small numbers.
 pub fn sizes_that_wrap(_index: u64, random: &mut Random) -> Vec<u8> {
-    let sheet: Sheet = valid::sheet_with_all_parts(random);
-    let mut draft = Draft::of(&sheet);
+    let mut draft = Draft::of(&valid::sheet_with_all_parts(random));
     let [_, m, k, l] = draft.sizes;
     match random.below(5) {
         0 => draft.sizes[1] = m + (random.between(1, 3) << 30),

@@ -6,15 +6,11 @@ use crate::random::Random;
 use crate::sheet::{HEADER_BYTES, WORD_BYTES};
 
 pub fn one_byte(_index: u64, random: &mut Random) -> Vec<u8> {
-    mutated(1, random, |bytes, draft, random| {
-        change_byte(bytes, draft, random)
-    })
+    mutated(1, random, change_byte)
 }
 
 pub fn one_word(_index: u64, random: &mut Random) -> Vec<u8> {
-    mutated(1, random, |bytes, draft, random| {
-        change_word(bytes, draft, random)
-    })
+    mutated(1, random, change_word)
 }
 
 pub fn several(_index: u64, random: &mut Random) -> Vec<u8> {

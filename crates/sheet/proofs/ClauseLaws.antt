@@ -1,0 +1,124 @@
+-- The clauses of an accepted sheet: where they stand, that their bytes are literals, and their two sets of atoms. Assumes nothing.
+use mathlib.Core.Path.{_≡_, refl, sym, ap, ap₂, _∙_, subst, subst₂}
+use mathlib.Core.Logic.{⊎-elim}
+use mathlib.Core.Bool.{Bool, true, false, not, cond, _||_}
+use mathlib.Core.List.{List, [], _∷_, _++_, map, map-append, List·Memᴰ as Mem}
+use Prim.Native.Nat.{ℕ, zero, suc, _+_, _-_, _*_, _≤_, _<_, zero-le}
+use native.Mathlib.Nat.{le-refl, le-trans, le-of-eq}
+use native.Mathlib.Omega.{arith}
+use lib.Dec.{ltb, eqb}
+use lib.ListN.{length, getD, drop, set, length-map}
+use lib.Seq.{getD-take, getD-drop}
+use borrow.Author.Tests.{ltb-false, eqb-true, not-true, not-false}
+use Rattle.words.specs.Lists.{any, all, pick, below}
+use Rattle.words.specs.Positions.{adding, setOf}
+use Rattle.words.proofs.Bools.{or-split, or-cases, or-true}
+use Rattle.words.proofs.Lists.{length-below, put-next, map-below-next}
+use Rattle.words.proofs.Members.{any-none, all-in, mem-at, at-mem, in-below}
+use Rattle.sheet.specs.Literals.{Lit, pos, neg, atom, plain, literal, between, isLiteral}
+use Rattle.sheet.specs.Layout.{atomCount, clauseCount, literalCount, literalsAt, objectivesAt, clauseStart, clauseEnd, clauseBytes, literalBytes, part}
+use Rattle.sheet.specs.Reading.{falls, noLiteral, badEnds, badLiteral, Accepted}
+use Rattle.sheet.specs.Order.{place, plains, negated}
+use Rattle.sheet.specs.declared.clauses.Clause.{Clause}
+use Rattle.sheet.specs.Answers.{clauseOf}
+use Rattle.sheet.proofs.Literals.{between-says, between-holds}
+use Rattle.sheet.proofs.Understood.{length-part, Passed, passed}
+
+-- ---- where a clause's literals stand
+
+module _ (s : List ℕ) (ok : Accepted s) where
+  pub clause-rises : (i : ℕ) → i < clauseCount s → clauseStart s i ≤ clauseEnd s i
+  unfolding badEnds
+  clause-rises i h =
+      ltb-false (clauseEnd s i) (clauseStart s i)
+      (any-none (falls s) (below (clauseCount s)) (or-split (any (falls s) (below (clauseCount s))) _ (passed s ok .endsRise) .0) i (in-below (clauseCount s) i h))
+
+  last-end : clauseStart s (clauseCount s) ≡ literalCount s
+  unfolding badEnds
+  last-end = eqb-true (clauseStart s (clauseCount s)) (literalCount s) (not-false _ (or-split (any (falls s) (below (clauseCount s))) _ (passed s ok .endsRise) .1))
+
+  -- so many clauses before the last, the starts have not fallen since
+  starts-rise : (d i : ℕ) → i + d ≡ clauseCount s → clauseStart s i ≤ clauseStart s (clauseCount s)
+  starts-rise zero i e = let same : i ≡ clauseCount s = omega arith in le-of-eq (ap (clauseStart s) same)
+  starts-rise (suc d) i e =
+      let next : suc i + d ≡ clauseCount s = omega arith in
+      le-trans (clause-rises i (omega arith)) (starts-rise d (suc i) next)
+
+  pub clause-ends-within : (i : ℕ) → i < clauseCount s → clauseEnd s i ≤ literalCount s
+  clause-ends-within i h =
+      let e : suc i + (clauseCount s - suc i) ≡ clauseCount s = omega arith in
+      subst (λ (x : ℕ). clauseEnd s i ≤ x) last-end (starts-rise (clauseCount s - suc i) (suc i) e)
+
+-- ---- its bytes are literals
+
+-- a literal of few atoms is one of more
+more-atoms : (n b : ℕ) → n ≤ 64 → isLiteral n b ≡ true → isLiteral 64 b ≡ true
+unfolding isLiteral
+more-atoms n b few e =
+    ⊎-elim (λ h. let p = between-says 1 n b h in ap (λ (x : Bool). x || between 192 255 b) (between-holds 1 64 b (p .0) (omega arith)))
+    (λ h. let p = between-says (256 - n) 255 b h in ap (λ (x : Bool). between 1 64 b || x) (between-holds 192 255 b (omega arith) (p .1)) ∙ or-true (between 1 64 b))
+    (or-cases (between 1 n b) (between (256 - n) 255 b) e)
+
+getD-part : (from to : ℕ) (s : List ℕ) (i : ℕ) → i < to - from → getD (part from to s) i 0 ≡ getD s (from + i) 0
+getD-part from to s i h = getD-take (to - from) (drop from s) i 0 h ∙ getD-drop from s i 0
+
+module _ (s : List ℕ) (ok : Accepted s) where
+  literal-byte : (i : ℕ) → i < literalCount s → isLiteral 64 (getD s (literalsAt s + i) 0) ≡ true
+  unfolding badLiteral
+  literal-byte i h =
+      let p = passed s ok in
+      let lt : i < objectivesAt s - literalsAt s = omega arith in
+      let len = length-part (literalsAt s) (objectivesAt s) s (omega (arith, p .sized .whole)) in
+      more-atoms (atomCount s) _ (p .sized .counted .atoms)
+      (ap (isLiteral (atomCount s)) (sym (getD-part (literalsAt s) (objectivesAt s) s i lt))
+      ∙ not-false _ (any-none (noLiteral (atomCount s)) (literalBytes s) (p .allLiterals) _ (mem-at 0 (literalBytes s) i (omega (arith, len)))))
+
+  pub clause-literals : (i : ℕ) → i < clauseCount s → all (isLiteral 64) (clauseBytes s i) ≡ true
+  clause-literals i h = all-in (isLiteral 64) (clauseBytes s i) each
+    where
+      each : (b : ℕ) → Mem b (clauseBytes s i) → isLiteral 64 b ≡ true
+      each b m =
+          let u = at-mem 0 (clauseBytes s i) b m in
+          let fits = clause-ends-within s ok i h in
+          let whole = passed s ok .sized .whole in
+          let len = length-part (literalsAt s + clauseStart s i) (literalsAt s + clauseEnd s i) s (omega (arith, whole)) in
+          let lt : u .0 < literalsAt s + clauseEnd s i - (literalsAt s + clauseStart s i) = omega (arith, len, u .1) in
+          let at : literalsAt s + clauseStart s i + u .0 ≡ literalsAt s + (clauseStart s i + u .0) = omega arith in
+          ap (isLiteral 64) (sym (u .2) ∙ getD-part (literalsAt s + clauseStart s i) (literalsAt s + clauseEnd s i) s (u .0) lt ∙ ap (λ (k : ℕ). getD s k 0) at)
+          ∙ literal-byte (clauseStart s i + u .0) (omega arith)
+
+-- ---- one literal more in a clause's two sets
+
+abbrev sets : ℕ → ℕ → Clause
+sets p q = record { plains = p; negated = q }
+
+module _ (ls : List Lit) (a : ℕ) {c : Clause} {r : ℕ} (e : c ≡ clauseOf ls) where
+  pub with-plain : r ≡ adding (c .plains) (a - 1) → sets r (c .negated) ≡ clauseOf (pos a ∷ ls)
+  unfolding plains negated setOf
+  with-plain f = ap (λ (p : ℕ). sets p (c .negated)) f ∙ ap (λ (w : Clause). sets (adding (w .plains) (a - 1)) (w .negated)) e
+
+  pub with-negated : r ≡ adding (c .negated) (a - 1) → sets (c .plains) r ≡ clauseOf (neg a ∷ ls)
+  unfolding plains negated setOf
+  with-negated f = ap (λ (q : ℕ). sets (c .plains) q) f ∙ ap (λ (w : Clause). sets (w .plains) (adding (w .negated) (a - 1))) e
+
+-- ---- the sets of the first clauses, as a list is filled with them
+
+abbrev pub literalsOf : List ℕ → ℕ → List Lit
+literalsOf s i = map literal (clauseBytes s i)
+
+module _ (set-of : List Lit → ℕ) (s : List ℕ) where
+  abbrev pub firstSets : ℕ → List ℕ
+  firstSets i = map set-of (map (literalsOf s) (below i))
+
+  pub no-sets : firstSets 0 ≡ []
+  unfolding below
+  no-sets = refl
+
+  pub length-sets : (i : ℕ) → length (firstSets i) ≡ i
+  length-sets i = length-map (map (literalsOf s) (below i)) set-of ∙ length-map (below i) (literalsOf s) ∙ length-below i
+
+  pub next-set : (d : List ℕ) (i v : ℕ) → v ≡ set-of (literalsOf s i) → i < length d → set (firstSets i ++ drop i d) i v ≡ firstSets (i + 1) ++ drop (i + 1) d
+  next-set d i v e h =
+      put-next (firstSets i) d i v 0 (length-sets i) h
+      ∙ ap (λ (x : ℕ). (firstSets i ++ (x ∷ [])) ++ drop (i + 1) d) e
+      ∙ ap (λ (l : List ℕ). l ++ drop (i + 1) d) (sym (ap (map set-of) (map-below-next (literalsOf s) i) ∙ map-append set-of (map (literalsOf s) (below i)) (literalsOf s i ∷ [])))

@@ -1,0 +1,83 @@
+// The clauses of an accepted sheet, each as two sets of atoms: atom a is position a - 1.
+ghost use mathlib.Core.Path.{_≡_};
+ghost use mathlib.Core.Bool.{true};
+ghost use mathlib.Core.List.{List, _∷_, _++_, map};
+ghost use Prim.Native.Nat.{ℕ, _≤_};
+ghost use lib.ListN.{length, drop};
+ghost use Rattle.words.specs.Lists.{all};
+ghost use Rattle.sheet.specs.Literals.{Lit, literal, isLiteral};
+ghost use Rattle.sheet.specs.Layout.{clauseCount};
+ghost use Rattle.sheet.specs.Reading.{sheetOf, Accepted};
+ghost use Rattle.sheet.specs.Order.{plains as plainAtoms, negated as negatedAtoms};
+ghost use Rattle.sheet.specs.Answers.{clauseOf};
+use crate::bytes::word_at;
+use crate::literal::literal_of;
+use crate::literal::Literal;
+
+// A clause: the atoms that stand in it, and those that stand negated.
+pub struct Clause {
+    pub plains: u64,
+    pub negated: u64,
+}
+
+// The clause with one literal more in front.
+fn with_literal(c: Clause, b: u8) -> Clause
+    requires { ⌜ isLiteral 64 b ≡ true ⌝ }
+    ensures { λ r. ⌜ ((ls : List Lit) → c ≡ clauseOf ls → r ≡ clauseOf (literal b ∷ ls)) ⌝ }
+{
+    match literal_of(b, 64) {
+        Literal::Of(plain, atom) => {
+            if plain {
+                return Clause {
+                    plains: words::adding(c.plains, atom - 1),
+                    negated: c.negated,
+                };
+            }
+            Clause {
+                plains: c.plains,
+                negated: words::adding(c.negated, atom - 1),
+            }
+        }
+        Literal::Neither => c,
+    }
+}
+
+// The clause of some literal bytes.
+fn clause_of(bytes: &[u8]) -> Clause
+    requires { ⌜ all (isLiteral 64) (now bytes) ≡ true ⌝ }
+    ensures { λ r. ⌜ r ≡ clauseOf (map literal (now (bytes .entry))) ⌝ }
+{
+    let mut c = Clause {
+        plains: 0,
+        negated: 0,
+    };
+    let mut i = bytes.len();
+    while 0 < i {
+        i -= 1;
+        c = with_literal(c, bytes[i]);
+    }
+    c
+}
+
+// The two sets of each clause, into the first places of the lent words.
+pub fn clauses_into(s: &[u8], plains: &mut [u64], negated: &mut [u64])
+    requires { ⌜ Accepted (now s) ⌝ }
+    requires { ⌜ (clauseCount (now s) ≤ length (now plains)) × (clauseCount (now s) ≤ length (now negated)) ⌝ }
+    ensures { λ _. ⌜ now (plains .exit) ≡ map plainAtoms (sheetOf (now (s .entry)) .clauses) ++ drop (clauseCount (now (s .entry))) (now (plains .entry)) ⌝ }
+    ensures { λ _. ⌜ now (negated .exit) ≡ map negatedAtoms (sheetOf (now (s .entry)) .clauses) ++ drop (clauseCount (now (s .entry))) (now (negated .entry)) ⌝ }
+{
+    let clauses = word_at(s, 4) as usize;
+    let literals_at = 32 + 4 * clauses;
+    let mut start = 0;
+    let mut i = 0;
+    while i < clauses {
+        let end = word_at(s, 32 + 4 * i) as usize;
+        let from = literals_at + start;
+        let to = literals_at + end;
+        let c = clause_of(&s[from..to]);
+        plains[i] = c.plains;
+        negated[i] = c.negated;
+        start = end;
+        i += 1;
+    }
+}
