@@ -1,6 +1,5 @@
 -- The clauses of an accepted sheet: where they stand, that their bytes are literals, and their two sets of atoms. Assumes nothing.
 use mathlib.Core.Path.{_≡_, refl, sym, ap, ap₂, _∙_, subst, subst₂}
-use mathlib.Core.Logic.{⊎-elim}
 use mathlib.Core.Bool.{Bool, true, false, not, cond, _||_}
 use mathlib.Core.List.{List, [], _∷_, _++_, map, map-append, List·Memᴰ as Mem}
 use Prim.Native.Nat.{ℕ, zero, suc, _+_, _-_, _*_, _≤_, _<_, zero-le}
@@ -12,7 +11,7 @@ use lib.Seq.{getD-take, getD-drop}
 use borrow.Author.Tests.{ltb-false, eqb-true, not-true, not-false}
 use Rattle.words.specs.Lists.{any, all, pick, below}
 use Rattle.words.specs.Positions.{adding, setOf}
-use Rattle.words.proofs.Bools.{or-split, or-cases, or-true}
+use Rattle.words.proofs.Bools.{or-split}
 use Rattle.words.proofs.Lists.{length-below, put-next, map-below-next}
 use Rattle.words.proofs.Members.{any-none, all-in, mem-at, at-mem, in-below}
 use Rattle.sheet.specs.Literals.{Lit, pos, neg, atom, plain, literal, between, isLiteral}
@@ -21,7 +20,7 @@ use Rattle.sheet.specs.Reading.{falls, noLiteral, badEnds, badLiteral, A
 use Rattle.sheet.specs.Order.{place, plains, negated}
 use Rattle.sheet.specs.declared.clauses.Clause.{Clause}
 use Rattle.sheet.specs.Answers.{clauseOf}
-use Rattle.sheet.proofs.Literals.{between-says, between-holds}
+use Rattle.sheet.proofs.Literals.{more-atoms}
 use Rattle.sheet.proofs.Understood.{length-part, Passed, passed}
 
 -- ---- where a clause's literals stand
@@ -50,14 +49,6 @@ module _ (s : List ℕ) (ok : Accepted s) where
       subst (λ (x : ℕ). clauseEnd s i ≤ x) last-end (starts-rise (clauseCount s - suc i) (suc i) e)
 
 -- ---- its bytes are literals
-
--- a literal of few atoms is one of more
-more-atoms : (n b : ℕ) → n ≤ 64 → isLiteral n b ≡ true → isLiteral 64 b ≡ true
-unfolding isLiteral
-more-atoms n b few e =
-    ⊎-elim (λ h. let p = between-says 1 n b h in ap (λ (x : Bool). x || between 192 255 b) (between-holds 1 64 b (p .0) (omega arith)))
-    (λ h. let p = between-says (256 - n) 255 b h in ap (λ (x : Bool). between 1 64 b || x) (between-holds 192 255 b (omega arith) (p .1)) ∙ or-true (between 1 64 b))
-    (or-cases (between 1 n b) (between (256 - n) 255 b) e)
 
 getD-part : (from to : ℕ) (s : List ℕ) (i : ℕ) → i < to - from → getD (part from to s) i 0 ≡ getD s (from + i) 0
 getD-part from to s i h = getD-take (to - from) (drop from s) i 0 h ∙ getD-drop from s i 0

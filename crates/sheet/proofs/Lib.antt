@@ -4,3 +4,5 @@ pub mod Numbers
 pub mod Table
 pub mod Understood
 pub mod ClauseLaws
+pub mod BranchLaws
+pub mod EachOnce

@@ -1,12 +1,13 @@
 -- Bytes and the literals that they stand for. Assumes nothing.
 use mathlib.Core.Path.{_≡_, refl, sym, ap, ap₂, _∙_}
+use mathlib.Core.Logic.{⊎-elim}
 use mathlib.Core.Bool.{Bool, true, false, cond, _&&_, _||_}
 use Prim.Native.Nat.{ℕ, zero, suc, _+_, _-_, _≤_, _<_}
 use native.Mathlib.Omega.{arith}
-use lib.Dec.{ltb, leb}
+use lib.Dec.{ltb, leb, lit≤}
 use lib.IntN.{ℤ, subℕ}
 use borrow.Author.Tests.{lt-ltb, le-ltb, le-leb, lt-leb, leb-true, ltb-true, ltb-false}
-use Rattle.words.proofs.Bools.{same-test, and-split, or-false, and-false}
+use Rattle.words.proofs.Bools.{same-test, and-split, or-cases, or-true, or-false, and-false}
 use Rattle.sheet.specs.Literals.{Lit, pos, neg, atom, plain, signed, ofNumber, literal, between, isLiteral, byteOf}
 
 -- ---- the two halves of the bytes
@@ -82,3 +83,25 @@ module _ (low high : ℕ) {r x : ℕ} (e : r ≡ x) where
 
   pub read-past : high < r → between low high x ≡ false
   read-past h = ap (between low high) (sym e) ∙ between-past low high r h
+
+-- ---- an atom as a byte
+
+pub atom-literal : (a : ℕ) → 1 ≤ a → a ≤ 64 → isLiteral 64 a ≡ true
+atom-literal a l h = low-byte 64 a (lit≤ tt) (omega arith) ∙ between-holds 1 64 a l h
+
+-- ---- literals of other numbers of atoms
+
+-- a literal of few atoms is one of more
+pub more-atoms : (n b : ℕ) → n ≤ 64 → isLiteral n b ≡ true → isLiteral 64 b ≡ true
+unfolding isLiteral
+more-atoms n b few e =
+    ⊎-elim (λ h. let p = between-says 1 n b h in ap (λ (x : Bool). x || between 192 255 b) (between-holds 1 64 b (p .0) (omega arith)))
+    (λ h. let p = between-says (256 - n) 255 b h in ap (λ (x : Bool). between 1 64 b || x) (between-holds 192 255 b (omega arith) (p .1)) ∙ or-true (between 1 64 b))
+    (or-cases (between 1 n b) (between (256 - n) 255 b) e)
+
+-- a literal is a byte
+pub literal-small : (n b : ℕ) → n ≤ 64 → isLiteral n b ≡ true → b < 256
+unfolding isLiteral
+literal-small n b few e =
+    ⊎-elim (λ h. let p = between-says 1 n b h in omega arith) (λ h. let p = between-says (256 - n) 255 b h in omega arith)
+    (or-cases (between 1 n b) (between (256 - n) 255 b) e)

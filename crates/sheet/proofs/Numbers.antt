@@ -145,7 +145,7 @@ module _ (n b : ℕ) (few : n ≤ 64) (small : b < 256) (lit : isLiteral n b ≡
   told : Of p a ≡ Of (plain (literal b)) (atom (literal b))
   told = sym f ∙ e ∙ ap (λ (x : Bool). cond x (Of (plain (literal b)) (atom (literal b))) Neither) lit
 
-  told-atom : a ≡ atom (literal b)
+  pub told-atom : a ≡ atom (literal b)
   told-atom = let t = told in cc
 
   told-sign : p ≡ plain (literal b)

@@ -28,12 +28,12 @@ module _ (s : List ℕ) where
   unfolding sheetOf
   clauses-counted = length-map (below (clauseCount s)) (λ i. map literal (clauseBytes s i)) ∙ length-below (clauseCount s)
 
+  pub objective-bytes-counted : Placed s → length (objectiveBytes s) ≡ objectiveCount s
+  objective-bytes-counted p = length-part (objectivesAt s) (totalBytes s) s (omega (arith, p .whole)) ∙ omega arith
+
   pub objectives-counted : Placed s → length (sheetOf s .objectives) ≡ objectiveCount s
   unfolding sheetOf
-  objectives-counted p =
-      length-map (objectiveBytes s) literal
-      ∙ length-part (objectivesAt s) (totalBytes s) s (omega (arith, p .whole))
-      ∙ omega arith
+  objectives-counted p = length-map (objectiveBytes s) literal ∙ objective-bytes-counted p
 
 -- ---- no row applies to an accepted sheet
 

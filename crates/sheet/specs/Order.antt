@@ -23,10 +23,15 @@ negated c = setOf (map place (pick (λ l. not (plain l)) c))
 
 -- ---- the branch order
 
--- the order with l at its end, unless l's atom stands in it
-unfoldable pub taking : List Lit → Lit → List Lit
-taking order l = elim (any (λ x. eqb (atom x) (atom l)) order) [ true ↦ order | false ↦ order ++ (l ∷ []) ]
+-- the literal is of atom a
+abbrev pub names : ℕ → Lit → Bool
+names a l = eqb (atom l) a
 
+-- the order with l at its end, unless l's atom is named in it
+unfoldable pub taking : List Lit → Lit → List Lit
+taking order l = elim (any (names (atom l)) order) [ true ↦ order | false ↦ order ++ (l ∷ []) ]
+
+-- the same for one literal after the other
 abbrev pub takingAll : List Lit → List Lit → List Lit
 takingAll order [] = order
 takingAll order (l ∷ ls) = takingAll (taking order l) ls

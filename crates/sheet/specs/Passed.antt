@@ -1,8 +1,13 @@
 -- What the inner functions take for granted: what is known of a sheet once the first checks did not apply.
 use mathlib.Core.Path.{_≡_}
-use mathlib.Core.List.{List}
-use Prim.Native.Nat.{ℕ, _≤_}
-use lib.ListN.{length}
+use mathlib.Core.List.{List, _++_, map}
+use Prim.Native.Nat.{ℕ, _-_, _≤_}
+use lib.ListN.{length, drop}
+use Rattle.words.specs.Lists.{any}
+use Rattle.words.specs.Positions.{has}
+use Rattle.sheet.specs.Literals.{Lit, byteOf}
+use Rattle.sheet.specs.Order.{names}
+use Rattle.sheet.specs.declared.order.Named.{Named}
 use Rattle.sheet.specs.Layout.{atomCount, clauseCount, objectiveCount, literalCount, totalBytes}
 
 -- past 10 and 11: the header is there, and its counts are in range
@@ -18,3 +23,9 @@ pub record Counted (s : List ℕ) : Type 0 where
 pub record Placed (s : List ℕ) : Type 0 where
   pub counted : Counted s
   pub whole : length s ≡ totalBytes s
+
+-- the order so far stands in the buffer in front of what was there before, and its atoms are those of the set
+pub record Ordered (so : List Lit) (before : List ℕ) (o : Named) (buffer : List ℕ) : Type 0 where
+  pub counted : o .count ≡ length so
+  pub named : (a : ℕ) → 1 ≤ a → has (o .atoms) (a - 1) ≡ any (names a) so
+  pub written : buffer ≡ map byteOf so ++ drop (o .count) before

@@ -7,6 +7,7 @@ mod bytes;
 pub mod literal;
 mod refusals;
 pub mod clauses;
+pub mod order;
 
 
 // What the check of a sheet answers.

@@ -1,7 +1,7 @@
 -- Tests over lists by the members of the list, and lists in which no entry stands twice. Assumes nothing.
 use mathlib.Core.Path.{_≡_, refl, sym, ap, _∙_, subst}
 use mathlib.Core.Logic.{⊎-elim}
-use mathlib.Core.Bool.{Bool, true, false, false≢true}
+use mathlib.Core.Bool.{Bool, true, false, _||_, false≢true}
 use mathlib.Core.List.{List, [], _∷_, _++_, List·Memᴰ as Mem, List·Memᴰ·head as head, List·Memᴰ·tail as tail, List·Memᴰ·not-nil as not-nil, List·Memᴰ·cases-cons as cases-cons, Memᴰ·cast as cast, List·Memᴰ·append-cases as append-cases, List·Memᴰ·eq-of-singleton as eq-of-singleton, Memᴰ·append-left as append-left, Memᴰ·append-right as append-right}
 use Prim.Native.Nat.{ℕ, zero, suc, _≤_, _<_}
 use native.Mathlib.Nat.{eq-or-lt-of-le, le-of-suc-le-suc}
@@ -46,6 +46,14 @@ module _ {A : Type 0} (f : A → Bool) where
       go : (b : Bool) → f y ≡ b → (all f xs ≡ true → Mem x xs → f x ≡ true) → f x ≡ true
       go true e later = ⊎-elim (λ e′. ap f e′ ∙ e) (later (rw (e, all) at h)) (cases-cons k)
       go false e later = absurd (false≢true (rw (e, all) at h))
+
+  pub any-append : (xs ys : List A) → any f (xs ++ ys) ≡ (any f xs || any f ys)
+  any-append [] ys = refl
+  any-append (x ∷ xs) ys = go (f x) refl (any-append xs ys)
+    where
+      go : (b : Bool) → f x ≡ b → any f (xs ++ ys) ≡ (any f xs || any f ys) → any f (x ∷ (xs ++ ys)) ≡ (any f (x ∷ xs) || any f ys)
+      go true e later = rw (e, any)
+      go false e later = rw (e, any) later
 
 -- ---- members and places
 
