@@ -1,8 +1,11 @@
--- What the proofs of several functions use, in this crate and above it.
+-- What the proofs of several functions use, in this crate and above it, and what is proved of the definitions besides.
 pub mod Literals
 pub mod Numbers
 pub mod Table
+pub mod ExactlyOne
 pub mod Understood
 pub mod ClauseLaws
 pub mod BranchLaws
 pub mod EachOnce
+pub mod Answered
+pub mod WorkedSheets

@@ -4,3 +4,4 @@ pub mod Reading
 pub mod Answers
 pub mod Order
 pub mod Passed
+pub mod Worked

@@ -1,0 +1,15 @@
+-- What the calls from other languages answer and write.
+use mathlib.Core.List.{List, [], _∷_}
+use Prim.Native.Nat.{ℕ}
+use lib.ListN.{length}
+use Rattle.sheet.specs.Reading.{Reading, refused, understood}
+
+-- "that call answers 10 to 15, or n, m and k": the number, or 0
+abbrev pub codeOf : Reading → ℕ
+codeOf (refused c) = c
+codeOf (understood x) = 0
+
+-- the three lent words afterwards: n, m and k, or what they were
+abbrev pub sizesOf : Reading → List ℕ → List ℕ
+sizesOf (refused c) before = before
+sizesOf (understood x) before = x .atoms ∷ length (x .clauses) ∷ length (x .objectives) ∷ []
