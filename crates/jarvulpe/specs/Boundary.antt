@@ -1,6 +1,6 @@
 -- What the calls from other languages answer and write.
-use mathlib.Core.List.{List, [], _∷_}
 use Prim.Native.Nat.{ℕ}
+use mathlib.Core.List.{List, [], _∷_}
 use lib.ListN.{length}
 use Rattle.sheet.specs.Reading.{Reading, refused, understood}
 

@@ -1,16 +1,15 @@
 -- What an answer of the check says of the sheet. Assumes nothing.
-use mathlib.Core.Path.{_≡_, refl, sym, ap, _∙_}
+use Prim.Native.Nat.{ℕ}
 use mathlib.Core.List.{List}
-use Prim.Native.Nat.{ℕ, _≤_}
+use mathlib.Core.Path.{_≡_, refl, sym, ap, _∙_}
 use native.Mathlib.Omega.{arith}
 use lib.ListN.{length}
-use Rattle.sheet.specs.declared.Checked.{Checked}
-use Rattle.sheet.specs.declared.Checked.the-variants.{Refused, Accepted as Understood}
-use Rattle.sheet.specs.Layout.{atomCount, clauseCount, objectiveCount}
-use Rattle.sheet.specs.Reading.{Reading, refused, understood, read, sheetOf, Accepted}
-use Rattle.sheet.specs.Answers.{answer}
 use Rattle.sheet.proofs.ExactlyOne.{understood-accepted}
 use Rattle.sheet.proofs.Understood.{passed, atoms-are, clauses-counted, objectives-counted}
+use Rattle.sheet.specs.Answers.{answer}
+use Rattle.sheet.specs.Layout.{atomCount, clauseCount, objectiveCount}
+use Rattle.sheet.specs.Reading.{Reading, refused, understood, read, sheetOf, Accepted}
+use Rattle.sheet.specs.declared.Checked.the-variants.{Refused, Accepted as Understood}
 
 pub answered-refused : (s : List ℕ) {c : ℕ} → Refused c ≡ answer (read s) → read s ≡ refused c
 answered-refused s {c} e = go (read s) refl e

@@ -1,28 +1,26 @@
 -- The branch order: one literal more, which atoms it names, and that it names each atom once. Assumes nothing.
+use Prim.Native.Nat.{ℕ, suc, _+_, _-_, _≤_, _<_}
+use mathlib.Core.Bool.{Bool, true, false, _||_}
+use mathlib.Core.List.{List, [], _∷_, _++_, map, map-append}
 use mathlib.Core.Path.{_≡_, refl, sym, ap, ap₂, _∙_, subst}
-use mathlib.Core.Logic.{⊎-elim}
-use mathlib.Core.Bool.{Bool, true, false, _||_, false≢true}
-use mathlib.Core.List.{List, [], _∷_, _++_, map, map-append, List·Memᴰ as Mem, List·Memᴰ·head as head, List·Memᴰ·append-cases as append-cases, List·Memᴰ·eq-of-singleton as eq-of-singleton, List·Memᴰ·cases-cons as cases-cons, List·Memᴰ·not-nil as not-nil, Memᴰ·cast as cast, Memᴰ·map as mem-map, Memᴰ·of-map as of-map}
-use Prim.Native.Nat.{ℕ, zero, suc, _+_, _-_, _≤_, _<_}
-use native.Mathlib.Nat.{le-antisymm}
 use native.Mathlib.Numerals.{add-one}
 use native.Mathlib.Omega.{arith}
 use lib.Dec.{eqb}
-use lib.ListN.{length, getD, drop, take, set, length-map, length-append, length-drop}
-use lib.Seq.{take-suc, append-snoc}
-use borrow.Author.Tests.{eq-eqb, ne-eqb, eqb-true, not-false}
-use Rattle.words.specs.Lists.{any, all, below, Distinct}
-use Rattle.words.specs.Positions.{has, adding}
-use Rattle.words.proofs.Bools.{same-test, or-split, or-true, or-false}
-use Rattle.words.proofs.Lists.{put-next, map-below-next, length-below}
-use Rattle.words.proofs.Members.{any-in, any-out, any-none, any-append, mem-at, at-mem, in-below, below-in, distinct-snoc, distinct-fit, distinct-below}
-use Rattle.words.proofs.Bits.{has-adding, has-none}
-use Rattle.sheet.specs.Literals.{Lit, pos, atom, literal, isLiteral, byteOf}
+use lib.ListN.{length, drop, take, set, length-map, length-append, length-drop}
+use lib.Seq.{take-suc}
+use borrow.Author.Tests.{eq-eqb, eqb-true}
 use Rattle.sheet.specs.Layout.{byte, atomCount, objectiveBytes}
-use Rattle.sheet.specs.Reading.{Sheet, sheetOf, noLiteral, badAt, badObjective, Accepted}
+use Rattle.sheet.specs.Literals.{Lit, pos, atom, literal, byteOf}
 use Rattle.sheet.specs.Order.{names, taking, takingAll, ascending, branch}
 use Rattle.sheet.specs.Passed.{Ordered}
+use Rattle.sheet.specs.Reading.{sheetOf}
 use Rattle.sheet.specs.declared.order.Named.{Named}
+use Rattle.words.proofs.Bits.{has-adding, has-none}
+use Rattle.words.proofs.Bools.{same-test, or-true, or-false}
+use Rattle.words.proofs.Lists.{put-next, map-below-next}
+use Rattle.words.proofs.Members.{any-append}
+use Rattle.words.specs.Lists.{any}
+use Rattle.words.specs.Positions.{has, adding}
 
 -- ---- one literal more
 

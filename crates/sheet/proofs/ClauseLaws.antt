@@ -1,27 +1,26 @@
 -- The clauses of an accepted sheet: where they stand, that their bytes are literals, and their two sets of atoms. Assumes nothing.
-use mathlib.Core.Path.{_≡_, refl, sym, ap, ap₂, _∙_, subst, subst₂}
-use mathlib.Core.Bool.{Bool, true, false, not, cond, _||_}
+use Prim.Native.Nat.{ℕ, zero, suc, _+_, _-_, _≤_, _<_}
+use mathlib.Core.Bool.{true, not}
 use mathlib.Core.List.{List, [], _∷_, _++_, map, map-append, List·Memᴰ as Mem}
-use Prim.Native.Nat.{ℕ, zero, suc, _+_, _-_, _*_, _≤_, _<_, zero-le}
-use native.Mathlib.Nat.{le-refl, le-trans, le-of-eq}
+use mathlib.Core.Path.{_≡_, refl, sym, ap, _∙_, subst}
+use native.Mathlib.Nat.{le-trans, le-of-eq}
 use native.Mathlib.Omega.{arith}
-use lib.Dec.{ltb, eqb}
 use lib.ListN.{length, getD, drop, set, length-map}
 use lib.Seq.{getD-take, getD-drop}
-use borrow.Author.Tests.{ltb-false, eqb-true, not-true, not-false}
-use Rattle.words.specs.Lists.{any, all, pick, below}
-use Rattle.words.specs.Positions.{adding, setOf}
+use borrow.Author.Tests.{ltb-false, eqb-true, not-false}
+use Rattle.sheet.proofs.Literals.{more-atoms}
+use Rattle.sheet.proofs.Understood.{length-part, passed}
+use Rattle.sheet.specs.Answers.{clauseOf}
+use Rattle.sheet.specs.Layout.{atomCount, clauseCount, literalCount, literalsAt, objectivesAt, clauseStart, clauseEnd, clauseBytes, literalBytes, part}
+use Rattle.sheet.specs.Literals.{Lit, pos, neg, literal, isLiteral}
+use Rattle.sheet.specs.Order.{plains, negated}
+use Rattle.sheet.specs.Reading.{falls, noLiteral, badEnds, badLiteral, Accepted}
+use Rattle.sheet.specs.declared.clauses.Clause.{Clause}
 use Rattle.words.proofs.Bools.{or-split}
 use Rattle.words.proofs.Lists.{length-below, put-next, map-below-next}
 use Rattle.words.proofs.Members.{any-none, all-in, mem-at, at-mem, in-below}
-use Rattle.sheet.specs.Literals.{Lit, pos, neg, atom, plain, literal, between, isLiteral}
-use Rattle.sheet.specs.Layout.{atomCount, clauseCount, literalCount, literalsAt, objectivesAt, clauseStart, clauseEnd, clauseBytes, literalBytes, part}
-use Rattle.sheet.specs.Reading.{falls, noLiteral, badEnds, badLiteral, Accepted}
-use Rattle.sheet.specs.Order.{place, plains, negated}
-use Rattle.sheet.specs.declared.clauses.Clause.{Clause}
-use Rattle.sheet.specs.Answers.{clauseOf}
-use Rattle.sheet.proofs.Literals.{more-atoms}
-use Rattle.sheet.proofs.Understood.{length-part, Passed, passed}
+use Rattle.words.specs.Lists.{any, all, below}
+use Rattle.words.specs.Positions.{adding, setOf}
 
 -- ---- where a clause's literals stand
 

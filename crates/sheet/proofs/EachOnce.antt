@@ -1,25 +1,24 @@
 -- The branch order of an accepted sheet names each of the atoms 1 to n once, and nothing else. Assumes nothing.
-use mathlib.Core.Path.{_≡_, refl, sym, ap, ap₂, _∙_, subst}
-use mathlib.Core.Logic.{⊎-elim}
+use Prim.Native.Nat.{ℕ, suc, _-_, _≤_}
 use mathlib.Core.Bool.{Bool, true, false, _||_, false≢true}
 use mathlib.Core.List.{List, [], _∷_, _++_, map, map-append, List·Memᴰ as Mem, List·Memᴰ·head as head, List·Memᴰ·tail as tail, List·Memᴰ·append-cases as append-cases, List·Memᴰ·eq-of-singleton as eq-of-singleton, List·Memᴰ·cases-cons as cases-cons, List·Memᴰ·not-nil as not-nil, Memᴰ·cast as cast, Memᴰ·map as mem-map, Memᴰ·of-map as of-map, Memᴰ·append-right as append-right}
-use Prim.Native.Nat.{ℕ, zero, suc, _+_, _-_, _≤_, _<_}
+use mathlib.Core.Logic.{⊎-elim}
+use mathlib.Core.Path.{_≡_, refl, sym, ap, _∙_, subst}
 use native.Mathlib.Nat.{le-antisymm}
 use native.Mathlib.Omega.{arith}
-use lib.Dec.{eqb}
 use lib.ListN.{length, length-map}
 use borrow.Author.Tests.{eq-eqb, eqb-true, not-false}
-use Rattle.words.specs.Lists.{any, all, below, Distinct}
-use Rattle.words.proofs.Bools.{or-split, or-true}
-use Rattle.words.proofs.Lists.{length-below}
-use Rattle.words.proofs.Members.{any-in, any-out, any-none, all-in, at-mem, in-below, below-in, distinct-snoc, distinct-fit, distinct-below}
-use Rattle.sheet.specs.Literals.{Lit, pos, atom, literal, between, isLiteral}
-use Rattle.sheet.specs.Layout.{byte, atomCount, objectiveBytes}
-use Rattle.sheet.specs.Reading.{Sheet, sheetOf, noLiteral, badAt, badObjective, Accepted}
-use Rattle.sheet.specs.Order.{names, taking, takingAll, ascending, branch}
+use Rattle.sheet.proofs.BranchLaws.{taking-old, taking-new, names-taking}
 use Rattle.sheet.proofs.Literals.{between-says, literal-atom, literal-small, more-atoms}
 use Rattle.sheet.proofs.Understood.{passed}
-use Rattle.sheet.proofs.BranchLaws.{taking-old, taking-new, names-taking}
+use Rattle.sheet.specs.Layout.{byte, atomCount, objectiveBytes}
+use Rattle.sheet.specs.Literals.{Lit, pos, atom, literal, isLiteral}
+use Rattle.sheet.specs.Order.{names, taking, takingAll, ascending, branch}
+use Rattle.sheet.specs.Reading.{sheetOf, noLiteral, badAt, badObjective, Accepted}
+use Rattle.words.proofs.Bools.{or-split, or-true}
+use Rattle.words.proofs.Lists.{length-below}
+use Rattle.words.proofs.Members.{any-out, any-none, all-in, at-mem, in-below, below-in, distinct-snoc, distinct-fit, distinct-below}
+use Rattle.words.specs.Lists.{any, all, below, Distinct}
 
 -- ---- no atom is named twice, and only atoms of the literals taken
 

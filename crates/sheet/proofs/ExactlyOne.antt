@@ -1,9 +1,9 @@
 -- The document's table says exactly one thing of every list of bytes. Assumes nothing.
-use mathlib.Core.Path.{_≡_, refl, sym, ap, _∙_, subst}
+use Prim.Native.Nat.{ℕ}
 use mathlib.Core.Bool.{Bool, true, false, false≢true}
 use mathlib.Core.List.{List, [], _∷_, _++_, List·Memᴰ as Mem, List·Memᴰ·head as head, List·Memᴰ·tail as tail, List·Memᴰ·not-nil as not-nil, List·Memᴰ·cases-cons as cases-cons, Memᴰ·append-right as append-right}
 use mathlib.Core.Logic.{⊎-elim}
-use Prim.Native.Nat.{ℕ}
+use mathlib.Core.Path.{_≡_, refl, sym, ap, _∙_, subst}
 use Rattle.sheet.specs.Reading.{Row, table, firstOf, Sheet, sheetOf, Reading, refused, understood, read, Accepted}
 
 -- the row applies, and none before it does

@@ -1,14 +1,14 @@
 -- Bytes and the literals that they stand for. Assumes nothing.
-use mathlib.Core.Path.{_≡_, refl, sym, ap, ap₂, _∙_}
-use mathlib.Core.Logic.{⊎-elim}
+use Prim.Native.Nat.{ℕ, suc, _-_, _≤_, _<_}
 use mathlib.Core.Bool.{Bool, true, false, cond, _&&_, _||_}
-use Prim.Native.Nat.{ℕ, zero, suc, _+_, _-_, _≤_, _<_}
+use mathlib.Core.Logic.{⊎-elim}
+use mathlib.Core.Path.{_≡_, refl, sym, ap, ap₂, _∙_}
 use native.Mathlib.Omega.{arith}
 use lib.Dec.{ltb, leb, lit≤}
 use lib.IntN.{ℤ, subℕ}
 use borrow.Author.Tests.{lt-ltb, le-ltb, le-leb, lt-leb, leb-true, ltb-true, ltb-false}
+use Rattle.sheet.specs.Literals.{Lit, pos, neg, atom, signed, ofNumber, literal, between, isLiteral, byteOf}
 use Rattle.words.proofs.Bools.{same-test, and-split, or-cases, or-true, or-false, and-false}
-use Rattle.sheet.specs.Literals.{Lit, pos, neg, atom, plain, signed, ofNumber, literal, between, isLiteral, byteOf}
 
 -- ---- the two halves of the bytes
 

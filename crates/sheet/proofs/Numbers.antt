@@ -1,22 +1,22 @@
 -- The code's signed numbers: a byte as a number from -128 to 127, its sign and its distance from zero. Assumes nothing.
-use mathlib.Core.Path.{_≡_, refl, sym, ap, _∙_, subst}
+use Prim.Native.Nat.{ℕ, zero, suc, _-_, _≤_, _<_, zero-le}
+use mathlib.Core.Bool.{Bool, true, false, cond, false≢true}
 use mathlib.Core.Logic.{⊎-elim}
-use mathlib.Core.Bool.{Bool, true, false, cond, _&&_, false≢true}
-use Prim.Native.Nat.{ℕ, zero, suc, _+_, _-_, _≤_, _<_, zero-le}
-use native.Mathlib.Omega.{arith}
+use mathlib.Core.Path.{_≡_, refl, sym, ap, _∙_, subst}
 use native.Mathlib.Nat.{zero-add, lt-irrefl, eq-or-lt-of-le}
-use lib.Dec.{T, leb}
-use lib.Signed.{ltZ, mag, nonNeg}
+use native.Mathlib.Omega.{arith}
+use lib.Dec.{T}
 use lib.IntN.{ℤ, pos, negsuc, natAbs, _-ℤ_}
+use lib.Signed.{ltZ, mag, nonNeg}
+use mir.Facts.{toZ-ofZ}
 use mir.Syntax.{w8, w16}
 use mir.Val.{Fits, SFits, toZ, ofZ, sel}
-use mir.Facts.{toZ-ofZ}
 use borrow.Author.Tests.{lt-ltb, le-ltb}
-use Rattle.sheet.specs.declared.literal.Literal.{Literal}
-use Rattle.sheet.specs.declared.literal.Literal.the-variants.{Of, Neither}
-use Rattle.sheet.specs.Literals.{Lit, atom, plain, signed, ofNumber, literal, between, isLiteral}
-use Rattle.sheet.specs.Answers.{literalAnswer}
 use Rattle.sheet.proofs.Literals.{signed-low, signed-high, literal-atom, between-says, between-holds, between-past}
+use Rattle.sheet.specs.Answers.{literalAnswer}
+use Rattle.sheet.specs.Literals.{Lit, atom, plain, signed, ofNumber, literal, between, isLiteral}
+use Rattle.sheet.specs.declared.literal.Literal.the-variants.{Of, Neither}
+use Rattle.sheet.specs.declared.literal.Literal.{Literal}
 
 -- ---- a byte from 128 on, less 256
 

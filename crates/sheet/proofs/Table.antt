@@ -1,19 +1,19 @@
 -- The rows of the document's table: what each says where its tests are known, and what is known where it does not apply. Assumes nothing.
-use mathlib.Core.Path.{_≡_, refl, sym, ap, ap₂, _∙_}
+use Prim.Native.Nat.{ℕ, _+_, _≤_, _<_}
 use mathlib.Core.Bool.{Bool, true, false, not, _||_}
 use mathlib.Core.List.{List, [], _∷_}
-use Prim.Native.Nat.{ℕ, suc, _+_, _≤_, _<_}
+use mathlib.Core.Path.{_≡_, sym, ap, _∙_}
 use native.Mathlib.Numerals.{add-one}
-use lib.Dec.{ltb, eqb}
+use lib.Dec.{eqb}
 use lib.ListN.{length}
 use borrow.Author.Tests.{lt-ltb, le-ltb, ltb-false, eqb-true, not-false}
-use Rattle.words.specs.Lists.{any, below}
-use Rattle.words.proofs.Bools.{or-split}
-use Rattle.sheet.specs.Literals.{between}
-use Rattle.sheet.specs.Layout.{header, atomCount, clauseCount, objectiveCount, literalCount, endsAt, literalsAt, objectivesAt, totalBytes, clauseStart, clauseEnd, objectiveBytes}
-use Rattle.sheet.specs.Reading.{short, outOfRange, misplaced, falls, badEnds, badLiteral, badObjective, row, table, firstOf, Reading, understood, sheetOf, read}
-use Rattle.sheet.specs.Passed.{Counted, Placed}
 use Rattle.sheet.proofs.Literals.{between-says}
+use Rattle.sheet.specs.Layout.{header, atomCount, clauseCount, objectiveCount, literalCount, endsAt, literalsAt, objectivesAt, totalBytes, clauseStart, clauseEnd, objectiveBytes}
+use Rattle.sheet.specs.Literals.{between}
+use Rattle.sheet.specs.Passed.{Counted, Placed}
+use Rattle.sheet.specs.Reading.{short, outOfRange, misplaced, falls, badEnds, badLiteral, badObjective, row, table, firstOf, Reading, understood, sheetOf, read}
+use Rattle.words.proofs.Bools.{or-split}
+use Rattle.words.specs.Lists.{any, below}
 
 module _ (s : List ℕ) where
   -- ---- a row by its tests

@@ -1,19 +1,19 @@
 -- What an accepted sheet is understood as. Assumes nothing.
-use mathlib.Core.Path.{_≡_, refl, _∙_, subst}
+use Prim.Native.Nat.{ℕ, _-_, _≤_}
 use mathlib.Core.Bool.{false}
 use mathlib.Core.List.{List, map, List·Memᴰ as Mem, List·Memᴰ·head as head, List·Memᴰ·tail as tail}
-use Prim.Native.Nat.{ℕ, _-_, _≤_}
+use mathlib.Core.Path.{_≡_, refl, _∙_, subst}
 use native.Mathlib.Omega.{arith}
-use lib.ListN.{length, take, drop, length-map, length-drop}
+use lib.ListN.{length, drop, length-map, length-drop}
 use lib.Seq.{length-take-le}
-use Rattle.words.specs.Lists.{below}
-use Rattle.words.proofs.Lists.{length-below}
-use Rattle.sheet.specs.Literals.{Lit, literal}
-use Rattle.sheet.specs.Layout.{atomCount, clauseCount, objectiveCount, objectivesAt, totalBytes, part, clauseBytes, objectiveBytes}
-use Rattle.sheet.specs.Reading.{short, outOfRange, misplaced, badEnds, badLiteral, badObjective, Row, row, table, sheetOf, Accepted}
-use Rattle.sheet.specs.Passed.{Placed}
-use Rattle.sheet.proofs.Table.{short-says, counted, placed}
 use Rattle.sheet.proofs.ExactlyOne.{Says, exactly-one}
+use Rattle.sheet.proofs.Table.{short-says, counted, placed}
+use Rattle.sheet.specs.Layout.{atomCount, clauseCount, objectiveCount, objectivesAt, totalBytes, part, clauseBytes, objectiveBytes}
+use Rattle.sheet.specs.Literals.{literal}
+use Rattle.sheet.specs.Passed.{Placed}
+use Rattle.sheet.specs.Reading.{short, outOfRange, misplaced, badEnds, badLiteral, badObjective, Row, row, table, sheetOf, Accepted}
+use Rattle.words.proofs.Lists.{length-below}
+use Rattle.words.specs.Lists.{below}
 
 -- a part that lies within the list has all its bytes
 pub length-part : (from to : ℕ) (s : List ℕ) → to ≤ length s → length (part from to s) ≡ to - from

@@ -1,14 +1,14 @@
 -- The sheets A to F are read as the clauses and objectives that document 01 says, computed. Assumes nothing.
-use mathlib.Core.Path.{_≡_, refl}
-use mathlib.Core.List.{List, [], _∷_, map}
 use Prim.Native.Nat.{ℕ}
+use mathlib.Core.List.{List, [], _∷_, map}
+use mathlib.Core.Path.{_≡_, refl}
 use lib.ListN.{length}
-use Rattle.words.specs.Lists.{below}
-use Rattle.sheet.specs.Literals.{Lit, pos, neg, signed, literal, isLiteral}
 use Rattle.sheet.specs.Layout.{word}
-use Rattle.sheet.specs.Reading.{short, outOfRange, misplaced, badEnds, badLiteral, badObjective, table, Sheet, sheetOf, Reading, understood, read}
+use Rattle.sheet.specs.Literals.{Lit, pos, neg, signed, literal, isLiteral}
 use Rattle.sheet.specs.Order.{taking, branch}
+use Rattle.sheet.specs.Reading.{short, outOfRange, misplaced, badEnds, badLiteral, badObjective, table, Sheet, sheetOf, understood, read}
 use Rattle.sheet.specs.Worked.{sheetA, sheetB, sheetC, sheetD, sheetE, sheetF}
+use Rattle.words.specs.Lists.{below}
 
 abbrev sheet : ℕ → List (List Lit) → List Lit → Sheet
 sheet n clauses objectives = record { atoms = n; clauses = clauses; objectives = objectives }

@@ -1,16 +1,16 @@
 -- The answers of the code as values of the document.
+use Prim.Native.Nat.{ℕ}
 use mathlib.Core.Bool.{cond}
 use mathlib.Core.List.{List}
-use Prim.Native.Nat.{ℕ}
 use lib.ListN.{length}
 use Rattle.sheet.specs.Literals.{Lit, plain, atom, literal, isLiteral}
-use Rattle.sheet.specs.Reading.{Reading, refused, understood}
 use Rattle.sheet.specs.Order.{plains, negated}
-use Rattle.sheet.specs.declared.clauses.Clause.{Clause}
-use Rattle.sheet.specs.declared.Checked.{Checked}
+use Rattle.sheet.specs.Reading.{Reading, refused, understood}
 use Rattle.sheet.specs.declared.Checked.the-variants.{Refused, Accepted}
-use Rattle.sheet.specs.declared.literal.Literal.{Literal}
+use Rattle.sheet.specs.declared.Checked.{Checked}
+use Rattle.sheet.specs.declared.clauses.Clause.{Clause}
 use Rattle.sheet.specs.declared.literal.Literal.the-variants.{Of, Neither}
+use Rattle.sheet.specs.declared.literal.Literal.{Literal}
 
 -- "that call answers 10 to 15, or n, m and k"
 abbrev pub answer : Reading → Checked

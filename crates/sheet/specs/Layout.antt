@@ -1,6 +1,6 @@
 -- Where things stand on a check sheet, a list of bytes. Quotations are of document 01.
-use mathlib.Core.List.{List}
 use Prim.Native.Nat.{ℕ, zero, suc, _+_, _-_, _*_}
+use mathlib.Core.List.{List}
 use lib.ListN.{getD, take, drop}
 
 -- the byte at a place; past the end there is none, and this says 0

@@ -1,6 +1,6 @@
 -- Literals, and the bytes that stand for them. Quotations are of document 01.
-use mathlib.Core.Bool.{Bool, true, false, cond, _&&_, _||_}
 use Prim.Native.Nat.{ℕ, suc, _-_}
+use mathlib.Core.Bool.{Bool, true, false, cond, _&&_, _||_}
 use lib.Dec.{ltb, leb}
 use lib.IntN.{ℤ, subℕ}
 

@@ -1,12 +1,12 @@
 -- What the walk takes from a sheet: each clause as two sets of atoms, and the branch order. Quotations are of document 01.
+use Prim.Native.Nat.{ℕ, suc, _-_}
 use mathlib.Core.Bool.{Bool, true, false, not}
 use mathlib.Core.List.{List, [], _∷_, _++_, map}
-use Prim.Native.Nat.{ℕ, suc, _-_}
 use lib.Dec.{eqb}
-use Rattle.words.specs.Lists.{any, pick, below}
-use Rattle.words.specs.Positions.{setOf}
 use Rattle.sheet.specs.Literals.{Lit, pos, atom, plain}
 use Rattle.sheet.specs.Reading.{Sheet}
+use Rattle.words.specs.Lists.{any, pick, below}
+use Rattle.words.specs.Positions.{setOf}
 
 -- ---- a clause as two sets of atoms
 

@@ -1,14 +1,14 @@
 -- What the inner functions take for granted: what is known of a sheet once the first checks did not apply.
-use mathlib.Core.Path.{_≡_}
-use mathlib.Core.List.{List, _++_, map}
 use Prim.Native.Nat.{ℕ, _-_, _≤_}
+use mathlib.Core.List.{List, _++_, map}
+use mathlib.Core.Path.{_≡_}
 use lib.ListN.{length, drop}
-use Rattle.words.specs.Lists.{any}
-use Rattle.words.specs.Positions.{has}
+use Rattle.sheet.specs.Layout.{atomCount, clauseCount, objectiveCount, literalCount, totalBytes}
 use Rattle.sheet.specs.Literals.{Lit, byteOf}
 use Rattle.sheet.specs.Order.{names}
 use Rattle.sheet.specs.declared.order.Named.{Named}
-use Rattle.sheet.specs.Layout.{atomCount, clauseCount, objectiveCount, literalCount, totalBytes}
+use Rattle.words.specs.Lists.{any}
+use Rattle.words.specs.Positions.{has}
 
 -- past 10 and 11: the header is there, and its counts are in range
 pub record Counted (s : List ℕ) : Type 0 where

@@ -1,13 +1,13 @@
 -- What a list of bytes is as a check sheet: refused with a number, or understood as clauses and objectives. Quotations are of document 01.
-use mathlib.Core.Path.{_≡_}
+use Prim.Native.Nat.{ℕ}
 use mathlib.Core.Bool.{Bool, true, false, not, _||_}
 use mathlib.Core.List.{List, [], _∷_, map}
-use Prim.Native.Nat.{ℕ, _+_}
+use mathlib.Core.Path.{_≡_}
 use lib.Dec.{ltb, eqb}
 use lib.ListN.{length}
-use Rattle.words.specs.Lists.{any, below}
-use Rattle.sheet.specs.Literals.{Lit, literal, between, isLiteral}
 use Rattle.sheet.specs.Layout.{byte, header, atomCount, clauseCount, objectiveCount, literalCount, endsAt, literalsAt, objectivesAt, totalBytes, clauseStart, clauseEnd, clauseBytes, literalBytes, objectiveBytes}
+use Rattle.sheet.specs.Literals.{Lit, literal, between, isLiteral}
+use Rattle.words.specs.Lists.{any, below}
 
 -- ---- the refusals
 

@@ -1,6 +1,6 @@
 -- The sheets A to F of document 01, "Sheets worked by hand", as bytes.
-use mathlib.Core.List.{List, [], _∷_, _++_}
 use Prim.Native.Nat.{ℕ, _+_, _*_}
+use mathlib.Core.List.{List, [], _∷_, _++_}
 
 -- a 32-bit word below 256
 abbrev pub small : ℕ → List ℕ

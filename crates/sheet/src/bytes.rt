@@ -18,5 +18,8 @@ pub fn word_at(s: &[u8], at: usize) -> u32
     requires { ⌜ at + 4 ≤ length (now s) ⌝ }
     ensures { λ r. ⌜ r ≡ word (now (s .entry)) at ⌝ }
 {
-    byte_at(s, at) + byte_at(s, at + 1) * 256 + byte_at(s, at + 2) * 65536 + byte_at(s, at + 3) * 16777216
+    byte_at(s, at)
+        + byte_at(s, at + 1) * 256
+        + byte_at(s, at + 2) * 65536
+        + byte_at(s, at + 3) * 16777216
 }

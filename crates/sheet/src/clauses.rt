@@ -11,8 +11,8 @@ ghost use Rattle.sheet.specs.Reading.{sheetOf, Accepted};
 ghost use Rattle.sheet.specs.Order.{plains as plainAtoms, negated as negatedAtoms};
 ghost use Rattle.sheet.specs.Answers.{clauseOf};
 use crate::bytes::word_at;
-use crate::literal::literal_of;
 use crate::literal::Literal;
+use crate::literal::literal_of;
 
 // A clause: the atoms that stand in it, and those that stand negated.
 pub struct Clause {

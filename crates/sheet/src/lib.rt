@@ -4,11 +4,10 @@ ghost use Rattle.sheet.specs.Reading.{read};
 ghost use Rattle.sheet.specs.Answers.{answer};
 
 mod bytes;
-pub mod literal;
-mod refusals;
 pub mod clauses;
+pub mod literal;
 pub mod order;
-
+mod refusals;
 
 // What the check of a sheet answers.
 pub enum Checked {

@@ -11,8 +11,8 @@ ghost use Rattle.sheet.specs.Reading.{sheetOf, Accepted};
 ghost use Rattle.sheet.specs.Order.{taking, takingAll, ascending, branch};
 ghost use Rattle.sheet.specs.Passed.{Ordered};
 use crate::bytes::word_at;
-use crate::literal::literal_of;
 use crate::literal::Literal;
+use crate::literal::literal_of;
 
 // How far the order is: the atoms that it names, and how many they are.
 pub struct Named {
@@ -58,10 +58,7 @@ fn take_objectives(order: &mut [u8], bytes: &[u8]) -> Named
     ensures grown { λ r. ⌜ Ordered (takingAll [] (map literal (now (bytes .entry)))) (now (order .entry)) r (now (order .exit)) ⌝ }
     ensures room { λ r. ⌜ r .count ≤ length (now (bytes .entry)) ⌝ }
 {
-    let mut o = Named {
-        atoms: 0,
-        count: 0,
-    };
+    let mut o = Named { atoms: 0, count: 0 };
     let mut i = 0;
     while i < bytes.len() {
         o = take_literal(order, o, bytes[i]);

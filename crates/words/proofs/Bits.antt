@@ -1,18 +1,18 @@
 -- From words to positions and back: what `and`, `or`, a power of two and one position more do to each position. Assumes nothing.
-use mathlib.Core.Path.{_≡_, refl, sym, ap, _∙_, subst}
+use Prim.Native.Nat.{ℕ, zero, suc, _+_, _*_, _/_, _%_, _^_, _≤_, _<_, min, max}
 use mathlib.Core.Bool.{Bool, true, false, cond, _&&_, _||_, false≢true}
 use mathlib.Core.List.{List, [], _∷_}
-use Prim.Native.Nat.{ℕ, zero, suc, _+_, _-_, _*_, _/_, _%_, _^_, _≤_, _<_, min, max}
+use mathlib.Core.Path.{_≡_, refl, sym, ap, _∙_, subst}
 use native.Mathlib.Nat.{div-one, one-mul, lt-of-lt-of-le, div-eq-of-lt}
 use native.Mathlib.Omega.{arith}
 use lib.Arith.{bin-ind, digits-mod}
-use lib.Pow.{pow-mono, pow-lt, shl-exact, shr-shr, shr-le}
 use lib.Bits.{bitAnd, bitOr, and-step, or-step, and-shr, or-shr, or-lt, or-disjoint, shifted-half, shifted-even}
 use lib.Dec.{eqb, eqb·suc-suc, eqb·suc-zero, eqb·zero-suc, lit<}
+use lib.Pow.{pow-mono, pow-lt, shl-exact, shr-shr, shr-le}
 use borrow.Author.Tests.{ne-eqb, eqb-true}
+use Rattle.words.proofs.Bools.{or-true, or-false, and-false}
 use Rattle.words.specs.Lists.{any}
 use Rattle.words.specs.Positions.{has, adding, setOf}
-use Rattle.words.proofs.Bools.{or-true, or-false, and-false}
 
 -- ---- a bit is 0 or 1
 

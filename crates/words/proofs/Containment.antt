@@ -1,17 +1,17 @@
 -- Containment, position by position and on whole words. Assumes nothing.
-use mathlib.Core.Path.{_≡_, sym, ap, _∙_}
+use Prim.Native.Nat.{ℕ, _^_, _<_}
 use mathlib.Core.Bool.{Bool, true, not, _&&_, _||_}
-use native.Mathlib.Omega.{arith}
-use Prim.Native.Nat.{ℕ, _^_, _≤_, _<_}
+use mathlib.Core.Path.{_≡_, sym, ap, _∙_}
 use native.Mathlib.Decide.{decLt}
+use native.Mathlib.Omega.{arith}
 use lib.Bits.{bitAnd}
 use lib.Dec.{eqb}
 use borrow.Author.Tests.{eq-eqb, eqb-true}
-use Rattle.words.specs.Lists.{below}
-use Rattle.words.specs.Positions.{has, within}
+use Rattle.words.proofs.Bits.{has-and, has-past, same-positions}
 use Rattle.words.proofs.Bools.{same-test, and-split, and-absorbs, implied, implies}
 use Rattle.words.proofs.Members.{all-in, all-out, in-below, below-in}
-use Rattle.words.proofs.Bits.{has-and, has-past, same-positions}
+use Rattle.words.specs.Lists.{below}
+use Rattle.words.specs.Positions.{has, within}
 
 module _ (a b : ℕ) where
   pub within-says : within a b ≡ true → (i : ℕ) → i < 64 → has a i ≡ true → has b i ≡ true
@@ -32,6 +32,6 @@ module _ (a b : ℕ) where
       -- below 64 what is in a is in b, and from there on nothing is in a
       kept : within a b ≡ true → (i : ℕ) → (has a i && has b i) ≡ has a i
       kept e i = elim (decLt i 64) [
-        yes h ↦ and-absorbs (has a i) (has b i) (within-says e i h)
+        | yes h ↦ and-absorbs (has a i) (has b i) (within-says e i h)
         | no h ↦ let past = has-past a 64 i fits (omega arith) in ap (λ (x : Bool). x && has b i) past ∙ sym past
       ]

@@ -1,7 +1,7 @@
 -- Lists: tests over them, each of which stops at the first entry that decides it, the numbers that are gone through, and when entries are distinct.
+use Prim.Native.Nat.{ℕ, zero, suc}
 use mathlib.Core.Bool.{Bool, true, false}
 use mathlib.Core.List.{List, [], _∷_, _++_, List·Memᴰ as Mem}
-use Prim.Native.Nat.{ℕ, zero, suc}
 
 module _ {A : Type 0} where
   -- some entry passes

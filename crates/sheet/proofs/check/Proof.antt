@@ -1,25 +1,17 @@
+-- `sheet::check`: each return is the table by the rows that did not apply before. Assumes nothing.
+use mathlib.Core.Bool.{Bool, false}
 use mathlib.Core.Path.{_≡_, refl, sym, ap, _∙_}
-use mathlib.Core.Bool.{Bool, true, false}
 use native.Mathlib.Omega.{arith}
-use Rattle.sheet.specs.declared.Checked.the-variants.{Accepted}
-use Rattle.sheet.specs.Reading.{short, outOfRange, misplaced, badEnds, badLiteral, read, sheetOf}
-use Rattle.sheet.specs.Answers.{answer}
-use Rattle.sheet.specs.Passed.{Counted, Placed}
+use borrow.Author.Needs.{needs}
 use Rattle.sheet.proofs.Table.{short-yes, short-no, counted, placed, readBy, read-is}
 use Rattle.sheet.proofs.Understood.{atoms-are, clauses-counted, objectives-counted}
-use borrow.Author.Needs.{needs}
 use Rattle.sheet.proofs.check.Statement.{statement}
 use Rattle.sheet.proofs.check.Tie as tie
-use Rattle.sheet.proofs.check.Reads as reads
-use Rattle.sheet.proofs.check.Lts as lts
-use Rattle.sheet.proofs.bytes.word_at.Reads as word-at-reads
-use Rattle.sheet.proofs.refusals.bad_ends.Reads as bad-ends-reads
-use Rattle.sheet.proofs.refusals.bad_literal.Reads as bad-literal-reads
-use Rattle.sheet.proofs.refusals.bad_objective.Reads as bad-objective-reads
-use Rattle.sheet.proofs.refusals.misplaced.Reads as misplaced-reads
-use Rattle.sheet.proofs.refusals.out_of_range.Reads as out-of-range-reads
+use Rattle.sheet.specs.Answers.{answer}
+use Rattle.sheet.specs.Passed.{Counted, Placed}
+use Rattle.sheet.specs.Reading.{short, outOfRange, misplaced, badEnds, read}
+use Rattle.sheet.specs.declared.Checked.the-variants.{Accepted}
 
--- the rows that did not apply, and what is known then
 long : (c : tie.Else1) → short (c .before .before .args .s .now) ≡ false
 long c = short-no _ (c .if1 .left)
 
@@ -48,82 +40,64 @@ rows c e =
     ap answer (read-is _ (long (v .before .before .before .before)) (in-range (v .before .before)) (in-place v) (ends-rise u)
     (sym (c .before .before .bad-literal .ensures) ∙ c .before .if5 .left) (sym (c .bad-objective .ensures) ∙ e))
 
--- src/lib.rt:24:9
 returns : tie.Need-returns
 returns c = ap answer (read-is _ (short-yes _ (c .if1 .taken)) refl refl refl refl refl)
 
--- src/lib.rt:26:8
 out-of-range-requires : tie.Need-out-of-range-requires
 out-of-range-requires c κs = search needs
 
--- src/lib.rt:27:9
 returns-2 : tie.Need-returns-2
 returns-2 c = ap answer (read-is _ (long (c .before .before)) (sym (c .before .out-of-range .ensures) ∙ c .if2 .taken) refl refl refl refl)
 
--- src/lib.rt:29:8
 misplaced-requires : tie.Need-misplaced-requires
 misplaced-requires c κs = is-counted c
 
--- src/lib.rt:30:9
 returns-3 : tie.Need-returns-3
 returns-3 c =
     let u = c .before .before in
     ap answer (read-is _ (long (u .before .before)) (in-range u) (sym (c .before .misplaced .ensures) ∙ c .if3 .taken) refl refl refl)
 
--- src/lib.rt:32:8
 bad-ends-requires : tie.Need-bad-ends-requires
 bad-ends-requires c κs = is-placed c
 
--- src/lib.rt:33:9
 returns-4 : tie.Need-returns-4
 returns-4 c =
     let u = c .before .before in
     ap answer (read-is _ (long (u .before .before .before .before)) (in-range (u .before .before)) (in-place u) (sym (c .before .bad-ends .ensures) ∙ c .if4 .taken) refl refl)
 
--- src/lib.rt:35:8
 bad-literal-requires : tie.Need-bad-literal-requires
 bad-literal-requires c κs = is-placed (c .before .before)
 
--- src/lib.rt:36:9
 returns-5 : tie.Need-returns-5
 returns-5 c =
     let u = c .before .before in
     let v = u .before .before in
     ap answer (read-is _ (long (v .before .before .before .before)) (in-range (v .before .before)) (in-place v) (ends-rise u) (sym (c .before .bad-literal .ensures) ∙ c .if5 .taken) refl)
 
--- src/lib.rt:38:8
 bad-objective-requires : tie.Need-bad-objective-requires
 bad-objective-requires c κs = is-placed (c .before .before .before .before)
 
--- src/lib.rt:39:9
 returns-6 : tie.Need-returns-6
 returns-6 c = rows (c .before) (c .if6 .taken)
 
--- src/lib.rt:42:9
 word-at-requires : tie.Need-word-at-requires
 word-at-requires c κs = search needs
 
--- src/lib.rt:42:9
 cast-t10 : tie.Need-cast-t10
 cast-t10 c = record { fits = omega (arith, is-placed (c .before .before .before .before .before .before .before) .counted .atoms, c .word-at .ensures) }
 
--- src/lib.rt:43:9
 word-at-requires-2 : tie.Need-word-at-requires-2
 word-at-requires-2 c κs = search needs
 
--- src/lib.rt:43:9
 cast-t2 : tie.Need-cast-t2
 cast-t2 c = search needs
 
--- src/lib.rt:44:9
 word-at-requires-3 : tie.Need-word-at-requires-3
 word-at-requires-3 c κs = search needs
 
--- src/lib.rt:44:9
 cast-t13 : tie.Need-cast-t13
 cast-t13 c = search needs
 
--- src/lib.rt:20:1
 returns-7 : tie.Need-returns-7
 returns-7 c =
     let u = c .before .before .before in

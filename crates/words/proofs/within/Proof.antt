@@ -1,18 +1,16 @@
+-- `words::within`: after i turns what is left is the test of the positions from i on. Assumes nothing.
 use Prim.Native.Nat.{_≤_, _-_}
-use mathlib.Core.Path.{_≡_, refl, sym, ap, ap₂, _∙_}
-use mathlib.Core.Bool.{Bool, true, false, not, _||_}
+use mathlib.Core.Bool.{Bool, true, not, _||_}
 use mathlib.Core.Logic.{⊎-elim}
+use mathlib.Core.Path.{_≡_, refl, sym, ap, ap₂, _∙_}
 use native.Mathlib.Omega.{arith}
 use lib.ListN.{drop}
 use borrow.Author.Tests.{not-true, not-false}
-use Rattle.words.specs.Lists.{all, below}
-use Rattle.words.specs.Positions.{has, within}
 use Rattle.words.proofs.Lists.{all-number, all-numbers-end}
 use Rattle.words.proofs.within.Statement.{statement}
 use Rattle.words.proofs.within.Tie as tie
-use Rattle.words.proofs.within.Reads as reads
-use Rattle.words.proofs.within.Lts as lts
-use Rattle.words.proofs.has.Reads as has-reads
+use Rattle.words.specs.Lists.{all, below}
+use Rattle.words.specs.Positions.{has, within}
 
 abbrev Inv-loop : tie.InvT-loop
 Inv-loop a b i₀ i = (i ≤ 64) × (within a b ≡ all (λ j. not (has a j) || has b j) (drop i (below 64)))
@@ -20,20 +18,16 @@ Inv-loop a b i₀ i = (i ≤ 64) × (within a b ≡ all (λ j. not (has a j) || 
 abbrev μ-loop : tie.MeasureT-loop
 μ-loop a b i₀ i = 64 - i
 
--- src/lib.rt:29:5
 loop-holds : tie.Need-loop-holds Inv-loop μ-loop
 unfolding within
 loop-holds c = (omega arith, refl)
 
--- src/lib.rt:30:12
 has-requires : tie.Need-has-requires Inv-loop μ-loop
 has-requires c κs = tt
 
--- src/lib.rt:31:17
 has-requires-2 : tie.Need-has-requires-2 Inv-loop μ-loop
 has-requires-2 c κs = tt
 
--- src/lib.rt:32:17
 returns : tie.Need-returns Inv-loop μ-loop
 returns c =
     let l = c .before .before .before .before .before in
@@ -42,15 +36,12 @@ returns c =
     let notInB = sym (c .before .has2 .ensures) ∙ not-true _ (c .if2 .taken) in
     sym (l .loop .inv .1 ∙ all-number (λ j. not (has (a .a) j) || has (a .b) j) 64 (l .loop .i) (c .before .before .before .before .loop-test .taken) (ap₂ (λ (x y : Bool). not x || y) inA notInB))
 
--- src/lib.rt:35:9
 add-i : tie.Need-add-i Inv-loop μ-loop
 add-i c = omega arith
 
--- src/lib.rt:29:5
 loop-less : tie.Need-loop-less Inv-loop μ-loop
 loop-less c = omega arith
 
--- src/lib.rt:29:5
 loop-again : tie.Need-loop-again Inv-loop μ-loop
 loop-again c =
     let l = c .before .before .before in
@@ -63,7 +54,6 @@ loop-again c =
           (λ w. next (ap (λ (x : Bool). not x || has (a .b) (l .loop .i)) (inA ∙ w .left))) (c .if1 .came),
     )
 
--- src/lib.rt:25:1
 returns-2 : tie.Need-returns-2 Inv-loop μ-loop
 returns-2 c = let l = c .before in sym (l .loop .inv .1 ∙ all-numbers-end (λ j. not (has (l .before .args .a) j) || has (l .before .args .b) j) 64 (l .loop .i) (c .loop-test .left))
 

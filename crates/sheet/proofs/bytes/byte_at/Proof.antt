@@ -1,20 +1,16 @@
+-- `sheet::bytes::byte_at`: an element of a slice of bytes is below 256. Assumes nothing.
 use mathlib.Core.Path.{refl}
 use native.Mathlib.Omega.{arith}
 use borrow.Author.Needs.{needs}
 use Rattle.sheet.proofs.bytes.byte_at.Statement.{statement}
 use Rattle.sheet.proofs.bytes.byte_at.Tie as tie
-use Rattle.sheet.proofs.bytes.byte_at.Reads as reads
-use Rattle.sheet.proofs.bytes.byte_at.Lts as lts
 
--- src/bytes.rt:13:5
 shared-slice-read-result : tie.Need-shared-slice-read-result
 shared-slice-read-result c = search needs
 
--- src/bytes.rt:13:5
 cast-result : tie.Need-cast-result
 cast-result c = omega (arith, c .shared-slice-known .given (c .before .args .at))
 
--- src/bytes.rt:8:1
 returns : tie.Need-returns
 returns c = (refl, omega (arith, c .shared-slice-known .given (c .before .args .at)))
 

@@ -1,64 +1,48 @@
-use Rattle.sheet.specs.Layout.{word}
+-- `sheet::bytes::word_at`: four bytes fit 32 bits. Assumes nothing.
 use borrow.Author.Needs.{needs}
 use Rattle.sheet.proofs.bytes.word_at.Statement.{statement}
 use Rattle.sheet.proofs.bytes.word_at.Tie as tie
-use Rattle.sheet.proofs.bytes.word_at.Reads as reads
-use Rattle.sheet.proofs.bytes.word_at.Lts as lts
-use Rattle.sheet.proofs.bytes.byte_at.Reads as byte-at-reads
+use Rattle.sheet.specs.Layout.{word}
 
--- src/bytes.rt:21:5
 byte-at-requires : tie.Need-byte-at-requires
 byte-at-requires c κs = search needs
 
--- src/bytes.rt:21:33
 add-byte-at : tie.Need-add-byte-at
 add-byte-at c = search needs
 
--- src/bytes.rt:21:22
 byte-at-requires-2 : tie.Need-byte-at-requires-2
 byte-at-requires-2 c κs = search needs
 
--- src/bytes.rt:21:22
 mul-result : tie.Need-mul-result
 mul-result c = search needs
 
--- src/bytes.rt:21:5
 add-result : tie.Need-add-result
 add-result c = search needs
 
--- src/bytes.rt:21:60
 add-byte-at-2 : tie.Need-add-byte-at-2
 add-byte-at-2 c = search needs
 
--- src/bytes.rt:21:49
 byte-at-requires-3 : tie.Need-byte-at-requires-3
 byte-at-requires-3 c κs = search needs
 
--- src/bytes.rt:21:49
 mul-result-2 : tie.Need-mul-result-2
 mul-result-2 c = search needs
 
--- src/bytes.rt:21:5
 add-result-2 : tie.Need-add-result-2
 add-result-2 c = search needs
 
--- src/bytes.rt:21:89
 add-byte-at-3 : tie.Need-add-byte-at-3
 add-byte-at-3 c = search needs
 
--- src/bytes.rt:21:78
 byte-at-requires-4 : tie.Need-byte-at-requires-4
 byte-at-requires-4 c κs = search needs
 
--- src/bytes.rt:21:78
 mul-result-3 : tie.Need-mul-result-3
 mul-result-3 c = search needs
 
--- src/bytes.rt:21:5
 add-result-3 : tie.Need-add-result-3
 add-result-3 c = search needs
 
--- src/bytes.rt:17:1
 returns : tie.Need-returns
 unfolding word
 returns c = search needs

@@ -1,21 +1,19 @@
-use mathlib.Core.Path.{_≡_, sym, ap, _∙_}
-use mathlib.Core.List.{List, _∷_, map}
+-- `sheet::clauses::clause_of`: going back from the end, the clause so far is that of the bytes from i on. Assumes nothing.
 use Prim.Native.Nat.{ℕ, _+_, _-_, _≤_}
+use mathlib.Core.List.{List, _∷_, map}
+use mathlib.Core.Path.{_≡_, sym, ap, _∙_}
 use native.Mathlib.Omega.{arith}
 use lib.ListN.{length, drop}
 use lib.Seq.{drop-length}
-use Rattle.words.specs.Positions.{setOf}
-use Rattle.words.proofs.Lists.{onward}
-use Rattle.words.proofs.Members.{all-out, mem-at}
-use Rattle.sheet.specs.Literals.{literal, isLiteral}
-use Rattle.sheet.specs.Layout.{byte}
-use Rattle.sheet.specs.Order.{plains, negated}
-use Rattle.sheet.specs.Answers.{clauseOf}
 use Rattle.sheet.proofs.clauses.clause_of.Statement.{statement}
 use Rattle.sheet.proofs.clauses.clause_of.Tie as tie
-use Rattle.sheet.proofs.clauses.clause_of.Reads as reads
-use Rattle.sheet.proofs.clauses.clause_of.Lts as lts
-use Rattle.sheet.proofs.clauses.with_literal.Reads as with-literal-reads
+use Rattle.sheet.specs.Answers.{clauseOf}
+use Rattle.sheet.specs.Layout.{byte}
+use Rattle.sheet.specs.Literals.{literal, isLiteral}
+use Rattle.sheet.specs.Order.{plains, negated}
+use Rattle.words.proofs.Lists.{onward}
+use Rattle.words.proofs.Members.{all-out, mem-at}
+use Rattle.words.specs.Positions.{setOf}
 
 abbrev Inv-loop : tie.InvT-loop
 Inv-loop bytes c₀ i₀ c i = (i ≤ length bytes) × (c ≡ clauseOf (map literal (drop i bytes)))
@@ -23,31 +21,25 @@ Inv-loop bytes c₀ i₀ c i = (i ≤ length bytes) × (c ≡ clauseOf (map lite
 abbrev μ-loop : tie.MeasureT-loop
 μ-loop bytes c₀ i₀ c i = i
 
--- src/clauses.rt:55:5
 loop-holds : tie.Need-loop-holds Inv-loop μ-loop
 unfolding plains negated setOf
 loop-holds c = (omega arith, ap (λ (l : List ℕ). clauseOf (map literal l)) (sym (drop-length (c .before .args .bytes .now))))
 
--- src/clauses.rt:56:9
 sub-i : tie.Need-sub-i Inv-loop μ-loop
 sub-i c = omega arith
 
--- src/clauses.rt:57:29
 shared-slice-read-with-literal : tie.Need-shared-slice-read-with-literal Inv-loop μ-loop
 shared-slice-read-with-literal c = omega arith
 
--- src/clauses.rt:57:9
 with-literal-requires : tie.Need-with-literal-requires Inv-loop μ-loop
 with-literal-requires c κs =
     let l = c .before .before in
     let bytes = l .before .before .args .bytes .now in
     all-out (isLiteral 64) bytes (l .before .before .pre) _ (mem-at 0 bytes (l .loop .i - 1) (omega arith))
 
--- src/clauses.rt:55:5
 loop-less : tie.Need-loop-less Inv-loop μ-loop
 loop-less c = omega arith
 
--- src/clauses.rt:55:5
 loop-again : tie.Need-loop-again Inv-loop μ-loop
 loop-again c =
     let l = c .before .before .before in
@@ -56,7 +48,6 @@ loop-again c =
     let front = onward 0 bytes (l .loop .i - 1) (omega arith) ∙ ap (λ (k : ℕ). byte bytes (l .loop .i - 1) ∷ drop k bytes) at in
     (omega arith, c .with-literal .ensures (map literal (drop (l .loop .i) bytes)) (l .loop .inv .1) ∙ ap (λ (x : List ℕ). clauseOf (map literal x)) (sym front))
 
--- src/clauses.rt:46:1
 returns : tie.Need-returns Inv-loop μ-loop
 returns c =
     let e : c .before .loop .i ≡ 0 = omega arith in

@@ -1,26 +1,23 @@
-use mathlib.Core.Path.{_≡_, refl, sym, ap, _∙_, subst, subst₂}
-use mathlib.Core.List.{List, _++_, map}
+-- `sheet::clauses::clauses_into`: after i turns the first i places hold the sets of the first i clauses, and the others what they held. Assumes nothing.
 use Prim.Native.Nat.{ℕ, _+_, _-_, _*_, _≤_, _<_}
+use mathlib.Core.List.{List, _++_, map}
+use mathlib.Core.Path.{_≡_, refl, sym, ap, _∙_, subst, subst₂}
 use native.Mathlib.Omega.{arith}
 use lib.ListN.{length, drop, set, length-set}
-use Rattle.sheet.specs.Layout.{clauseCount, literalCount, literalsAt, clauseStart, clauseEnd, clauseBytes, part}
-use Rattle.words.specs.Lists.{all}
-use Rattle.sheet.specs.Literals.{literal, isLiteral}
-use Rattle.sheet.specs.Reading.{sheetOf}
-use Rattle.sheet.specs.declared.clauses.Clause.{Clause}
-use Rattle.sheet.specs.Answers.{clauseOf}
-use Rattle.sheet.proofs.Table.{start-next}
-use Rattle.sheet.specs.Order.{plains as plainAtoms, negated as negatedAtoms}
-use Rattle.sheet.specs.Passed.{Placed}
-use Rattle.sheet.proofs.Understood.{passed}
-use Rattle.sheet.proofs.ClauseLaws.{clause-rises, clause-ends-within, clause-literals, firstSets, no-sets, next-set}
 use borrow.Author.Needs.{needs}
+use Rattle.sheet.proofs.ClauseLaws.{clause-rises, clause-ends-within, clause-literals, firstSets, no-sets, next-set}
+use Rattle.sheet.proofs.Table.{start-next}
+use Rattle.sheet.proofs.Understood.{passed}
 use Rattle.sheet.proofs.clauses.clauses_into.Statement.{statement}
 use Rattle.sheet.proofs.clauses.clauses_into.Tie as tie
-use Rattle.sheet.proofs.clauses.clauses_into.Reads as reads
-use Rattle.sheet.proofs.clauses.clauses_into.Lts as lts
-use Rattle.sheet.proofs.bytes.word_at.Reads as word-at-reads
-use Rattle.sheet.proofs.clauses.clause_of.Reads as clause-of-reads
+use Rattle.sheet.specs.Answers.{clauseOf}
+use Rattle.sheet.specs.Layout.{clauseCount, literalCount, clauseStart, clauseBytes, part}
+use Rattle.sheet.specs.Literals.{literal, isLiteral}
+use Rattle.sheet.specs.Order.{plains as plainAtoms, negated as negatedAtoms}
+use Rattle.sheet.specs.Passed.{Placed}
+use Rattle.sheet.specs.Reading.{sheetOf}
+use Rattle.sheet.specs.declared.clauses.Clause.{Clause}
+use Rattle.words.specs.Lists.{all}
 
 abbrev Inv-loop : tie.InvT-loop
 Inv-loop s plains₀ negated₀ clauses literals-at start₀ i₀ plains negated start i =
@@ -73,96 +70,74 @@ room : (c : tie.In-loop Inv-loop μ-loop) → let l = c .before in
     (l .loop .i < length (a .plains .now)) × (l .loop .i < length (a .negated .now))
 room c = let p = c .before .before .before .before .before .before .pre .1 in let h = in-sheet c in (omega (arith, p .0), omega (arith, p .1))
 
--- src/clauses.rt:69:19
 word-at-requires : tie.Need-word-at-requires Inv-loop μ-loop
 word-at-requires c κs = omega (arith, sized c)
 
--- src/clauses.rt:69:19
 cast-clauses : tie.Need-cast-clauses Inv-loop μ-loop
 cast-clauses c = search needs
 
--- src/clauses.rt:70:28
 mul-literals-at : tie.Need-mul-literals-at Inv-loop μ-loop
 mul-literals-at c = search needs
 
--- src/clauses.rt:70:23
 add-literals-at : tie.Need-add-literals-at Inv-loop μ-loop
 add-literals-at c = search needs
 
--- src/clauses.rt:73:5
 loop-holds : tie.Need-loop-holds Inv-loop μ-loop
 loop-holds c =
     let a = c .before .before .before .before .args in
     (omega arith, refl, refl, refl, ap (λ (l : List ℕ). l ++ a .plains .now) (sym (no-sets plainAtoms (a .s .now))), ap (λ (l : List ℕ). l ++ a .negated .now) (sym (no-sets negatedAtoms (a .s .now))))
 
--- src/clauses.rt:74:35
 mul-word-at : tie.Need-mul-word-at Inv-loop μ-loop
 mul-word-at c = omega (arith, few (c .before .before))
 
--- src/clauses.rt:74:30
 add-word-at : tie.Need-add-word-at Inv-loop μ-loop
 add-word-at c = omega (arith, few (c .before .before))
 
--- src/clauses.rt:74:19
 word-at-requires-2 : tie.Need-word-at-requires-2 Inv-loop μ-loop
 word-at-requires-2 c κs = omega (arith, few (c .before .before))
 
--- src/clauses.rt:74:19
 cast-end : tie.Need-cast-end Inv-loop μ-loop
 cast-end c = omega (arith, ends c)
 
--- src/clauses.rt:75:20
 add-from : tie.Need-add-from Inv-loop μ-loop
 add-from c = omega (arith, few (c .before .before .before), starts c, ends c)
 
--- src/clauses.rt:76:18
 add-to : tie.Need-add-to Inv-loop μ-loop
 add-to c = omega (arith, few (c .before .before .before), ends c)
 
--- src/clauses.rt:77:27
 sub-clause-of : tie.Need-sub-clause-of Inv-loop μ-loop
 sub-clause-of c = omega (arith, starts c)
 
--- src/clauses.rt:77:27
 part-clause-of-start : tie.Need-part-clause-of-start Inv-loop μ-loop
 part-clause-of-start c = omega (arith, starts c)
 
--- src/clauses.rt:77:27
 part-clause-of-end : tie.Need-part-clause-of-end Inv-loop μ-loop
 part-clause-of-end c = ends c .1
 
--- src/clauses.rt:77:13
 clause-of-requires : tie.Need-clause-of-requires Inv-loop μ-loop
 clause-of-requires c κs =
     let l = c .before .before .before in
     let u = l .before .before .before .before .before in
     ap (all (isLiteral 64)) (bytes-are (c .before)) ∙ clause-literals (u .args .s .now) (u .pre .0) (l .loop .i) (in-sheet (c .before .before))
 
--- src/clauses.rt:78:9
 mul-plains : tie.Need-mul-plains Inv-loop μ-loop
 mul-plains c = omega (arith, few (c .before .before .before .before .before), c .before .before .before .loop-test .taken)
 
--- src/clauses.rt:78:9
 slice-write-plains : tie.Need-slice-write-plains Inv-loop μ-loop
 slice-write-plains c = omega (arith, room (c .before .before .before) .0, c .before .before .before .before .loop .inv .2)
 
--- src/clauses.rt:79:9
 mul-negated : tie.Need-mul-negated Inv-loop μ-loop
 mul-negated c = omega (arith, few (c .before .before .before .before .before), c .before .before .before .loop-test .taken)
 
--- src/clauses.rt:79:9
 slice-write-negated : tie.Need-slice-write-negated Inv-loop μ-loop
 slice-write-negated c = omega (arith, room (c .before .before .before) .1, c .before .before .before .before .loop .inv .3)
 
--- src/clauses.rt:81:9
 add-i : tie.Need-add-i Inv-loop μ-loop
 add-i c = omega (arith, few (c .before .before .before .before .before), c .before .before .before .loop-test .taken)
 
--- src/clauses.rt:73:5
 loop-less : tie.Need-loop-less Inv-loop μ-loop
 loop-less c = omega arith
 
--- src/clauses.rt:73:5
 loop-again : tie.Need-loop-again Inv-loop μ-loop
 loop-again c =
     let l = c .before .before .before .before .loop in
@@ -178,15 +153,12 @@ loop-again c =
           ∙ next-set negatedAtoms (a .s .now) (a .negated .now) (l .i) (c .clause-of .result .negated) (ap (λ (w : Clause). w .negated) clause) (room (c .before .before .before) .1),
     )
 
--- src/clauses.rt:63:1
 same-length : tie.Need-same-length Inv-loop μ-loop
 same-length c = c .before .loop .inv .2
 
--- src/clauses.rt:63:1
 same-length-2 : tie.Need-same-length-2 Inv-loop μ-loop
 same-length-2 c = c .before .loop .inv .3
 
--- src/clauses.rt:63:1
 returns : tie.Need-returns Inv-loop μ-loop
 unfolding sheetOf
 returns c =

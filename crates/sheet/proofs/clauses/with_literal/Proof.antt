@@ -1,22 +1,18 @@
-use mathlib.Core.Path.{_≡_, sym, ap, _∙_}
+-- `sheet::clauses::with_literal`: the atom goes into the set of the literal's sign. Assumes nothing.
+use Prim.Native.Nat.{_≤_}
 use mathlib.Core.Bool.{Bool, cond, false≢true}
 use mathlib.Core.List.{_∷_}
-use Prim.Native.Nat.{_≤_}
+use mathlib.Core.Path.{_≡_, sym, ap, _∙_}
 use native.Mathlib.Omega.{arith}
 use lib.Dec.{lit≤}
-use Rattle.sheet.specs.Literals.{Lit, pos, neg, literal}
-use Rattle.sheet.specs.Answers.{clauseOf}
+use borrow.Author.Needs.{needs}
 use Rattle.sheet.proofs.ClauseLaws.{with-plain, with-negated}
 use Rattle.sheet.proofs.Numbers.{answered-neither, told-literal, told-range}
-use borrow.Author.Needs.{needs}
 use Rattle.sheet.proofs.clauses.with_literal.Statement.{statement}
 use Rattle.sheet.proofs.clauses.with_literal.Tie as tie
-use Rattle.sheet.proofs.clauses.with_literal.Reads as reads
-use Rattle.sheet.proofs.clauses.with_literal.Lts as lts
-use Rattle.sheet.proofs.literal.literal_of.Reads as literal-of-reads
-use Rattle.words.proofs.adding.Reads as adding-reads
+use Rattle.sheet.specs.Answers.{clauseOf}
+use Rattle.sheet.specs.Literals.{Lit, pos, neg, literal}
 
--- what the answer says of the byte
 in-atoms : (c : tie.After-plain) → (1 ≤ c .plain .given .0 .1 .0) × (c .plain .given .0 .1 .0 ≤ 64)
 in-atoms c =
     let u = c .before .before .before in
@@ -28,47 +24,37 @@ as-literal c h =
     told-literal 64 (u .args .b) (lit≤ tt) (u .fits .b .fits) (u .pre) (c .before .before .literal-of .ensures) (c .plain .given .1)
     ∙ ap (λ (x : Bool). cond x (pos (c .plain .given .0 .1 .0)) (neg (c .plain .given .0 .1 .0))) h
 
--- src/clauses.rt:28:11
 literal-of-requires : tie.Need-literal-of-requires
 literal-of-requires c κs = search needs
 
--- src/clauses.rt:29:21
 enum-known-plain : tie.Need-enum-known-plain
 enum-known-plain c = search needs
 
--- src/clauses.rt:32:53
 sub-adding : tie.Need-sub-adding
 sub-adding c = in-atoms (c .before .before) .0
 
--- src/clauses.rt:32:29
 adding-requires : tie.Need-adding-requires
 adding-requires c κs = let r = in-atoms (c .before .before) in omega arith
 
--- src/clauses.rt:31:17
 returns : tie.Need-returns
 returns c =
     λ ls e. with-plain ls _ e (c .adding .ensures)
     ∙ ap (λ (l : Lit). clauseOf (l ∷ ls)) (sym (as-literal (c .before .before .before) (c .before .if1 .taken)))
 
--- src/clauses.rt:38:51
 sub-adding-2 : tie.Need-sub-adding-2
 sub-adding-2 c = in-atoms (c .before .before) .0
 
--- src/clauses.rt:38:26
 adding-requires-2 : tie.Need-adding-requires-2
 adding-requires-2 c κs = let r = in-atoms (c .before .before) in omega arith
 
--- src/clauses.rt:41:29
 enum-told : tie.Need-enum-told
 enum-told c = search needs
 
--- src/clauses.rt:24:1
 returns-2 : tie.Need-returns-2
 returns-2 c =
     λ ls e. with-negated ls _ e (c .adding2 .ensures)
     ∙ ap (λ (l : Lit). clauseOf (l ∷ ls)) (sym (as-literal (c .before .before .before) (c .before .if1 .left)))
 
--- src/clauses.rt:24:1
 returns-3 : tie.Need-returns-3
 returns-3 c = λ ls e. absurd (false≢true (answered-neither _ _ (c .before .before .literal-of .ensures) (c .enum-told .given .1) ∙ c .before .before .before .pre))
 

@@ -1,28 +1,21 @@
-use Rattle.sheet.proofs.Numbers.{answered-of, answered-neither}
+-- `sheet::literal::is_literal`: whether the answer is a literal. Assumes nothing.
 use borrow.Author.Needs.{needs}
+use Rattle.sheet.proofs.Numbers.{answered-of, answered-neither}
 use Rattle.sheet.proofs.literal.is_literal.Statement.{statement}
 use Rattle.sheet.proofs.literal.is_literal.Tie as tie
-use Rattle.sheet.proofs.literal.is_literal.Reads as reads
-use Rattle.sheet.proofs.literal.is_literal.Lts as lts
-use Rattle.sheet.proofs.literal.literal_of.Reads as literal-of-reads
 
--- src/literal.rt:56:11
 literal-of-requires : tie.Need-literal-of-requires
 literal-of-requires c κs = search needs
 
--- src/literal.rt:57:30
 enum-told : tie.Need-enum-told
 enum-told c = search needs
 
--- src/literal.rt:58:29
 enum-told-2 : tie.Need-enum-told-2
 enum-told-2 c = search needs
 
--- src/literal.rt:52:1
 returns : tie.Need-returns
 returns c = answered-of _ _ (c .before .before .literal-of .ensures) (c .enum-told .given .1)
 
--- src/literal.rt:52:1
 returns-2 : tie.Need-returns-2
 returns-2 c = answered-neither _ _ (c .before .before .literal-of .ensures) (c .enum-told2 .given .1)
 

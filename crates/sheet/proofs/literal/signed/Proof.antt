@@ -1,31 +1,24 @@
-use Rattle.sheet.proofs.Numbers.{less-fits, byte-fits, less-signed, small-signed}
+-- `sheet::literal::signed`: below 128 the byte itself, from there on the byte less 256. Assumes nothing.
 use borrow.Author.Needs.{needs}
+use Rattle.sheet.proofs.Numbers.{less-fits, byte-fits, less-signed, small-signed}
 use Rattle.sheet.proofs.literal.signed.Statement.{statement}
 use Rattle.sheet.proofs.literal.signed.Tie as tie
-use Rattle.sheet.proofs.literal.signed.Reads as reads
-use Rattle.sheet.proofs.literal.signed.Lts as lts
 
--- src/literal.rt:19:9
 cast-result : tie.Need-cast-result
 cast-result c = search needs
 
--- src/literal.rt:21:10
 cast-result-2 : tie.Need-cast-result-2
 cast-result-2 c = search needs
 
--- src/literal.rt:21:10
 sub-result : tie.Need-sub-result
 sub-result c = less-fits _ (c .before .fits .b .fits)
 
--- src/literal.rt:21:9
 cast-result-3 : tie.Need-cast-result-3
 cast-result-3 c = byte-fits _ (c .if1 .left) (c .before .fits .b .fits)
 
--- src/literal.rt:15:1
 returns : tie.Need-returns
 returns c = small-signed _ (c .if1 .taken)
 
--- src/literal.rt:15:1
 returns-2 : tie.Need-returns-2
 returns-2 c = less-signed _ (c .if1 .left) (c .before .fits .b .fits)
 

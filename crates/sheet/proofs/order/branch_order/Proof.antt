@@ -1,34 +1,27 @@
-use mathlib.Core.Path.{_≡_, ap, _∙_, subst}
-use mathlib.Core.List.{List, [], _++_, map}
+-- `sheet::order::branch_order`: the objectives first, then the atoms; it is as long as there are atoms, since it names each once. Assumes nothing.
 use Prim.Native.Nat.{ℕ, _≤_}
+use mathlib.Core.List.{List, [], _++_, map}
+use mathlib.Core.Path.{ap, _∙_, subst}
 use native.Mathlib.Omega.{arith}
 use lib.ListN.{length, drop}
-use Rattle.words.specs.Lists.{all}
-use Rattle.sheet.specs.Literals.{Lit, literal, isLiteral, byteOf}
-use Rattle.sheet.specs.Reading.{sheetOf}
-use Rattle.sheet.specs.Order.{takingAll, ascending, branch}
-use Rattle.sheet.specs.Passed.{Ordered}
-use Rattle.sheet.proofs.Understood.{passed, objective-bytes-counted}
+use borrow.Author.Needs.{needs}
 use Rattle.sheet.proofs.BranchLaws.{branch-is}
 use Rattle.sheet.proofs.EachOnce.{objectives-literals, names-each-once}
-use borrow.Author.Needs.{needs}
+use Rattle.sheet.proofs.Understood.{passed, objective-bytes-counted}
 use Rattle.sheet.proofs.order.branch_order.Statement.{statement}
 use Rattle.sheet.proofs.order.branch_order.Tie as tie
-use Rattle.sheet.proofs.order.branch_order.Reads as reads
-use Rattle.sheet.proofs.order.branch_order.Lts as lts
-use Rattle.sheet.proofs.bytes.word_at.Reads as word-at-reads
-use Rattle.sheet.proofs.order.objectives.Reads as objectives-reads
-use Rattle.sheet.proofs.order.take_atoms.Reads as take-atoms-reads
-use Rattle.sheet.proofs.order.take_objectives.Reads as take-objectives-reads
+use Rattle.sheet.specs.Literals.{Lit, literal, isLiteral, byteOf}
+use Rattle.sheet.specs.Order.{takingAll, ascending, branch}
+use Rattle.sheet.specs.Passed.{Ordered}
+use Rattle.sheet.specs.Reading.{sheetOf}
+use Rattle.words.specs.Lists.{all}
 
 few-atoms : (c : tie.After-word-at) → c .word-at .result ≤ 64
 few-atoms c = omega (arith, passed _ (c .before .before .before .before .before .before .before .before .before .pre .0) .sized .counted .atoms, c .word-at .ensures)
 
--- src/order.rt:93:40
 objectives-requires : tie.Need-objectives-requires
 objectives-requires c κs = search needs
 
--- src/order.rt:93:9
 take-objectives-requires : tie.Need-take-objectives-requires
 take-objectives-requires c κs =
     let u = c .before .before .before .before in
@@ -37,15 +30,12 @@ take-objectives-requires c κs =
       omega (arith, u .pre .1, ap length (c .objectives .ensures) ∙ objective-bytes-counted _ (passed _ (u .pre .0) .sized), few),
     )
 
--- src/order.rt:94:30
 word-at-requires : tie.Need-word-at-requires
 word-at-requires c κs = omega (arith, passed _ (c .before .before .before .before .before .before .before .before .pre .0) .sized .counted .header)
 
--- src/order.rt:94:30
 cast-take-atoms : tie.Need-cast-take-atoms
 cast-take-atoms c = record { fits = omega (arith, few-atoms c) }
 
--- src/order.rt:94:5
 take-atoms-requires : tie.Need-take-atoms-requires
 take-atoms-requires c κs =
     let u = c .before .before .before .before in
@@ -55,11 +45,9 @@ take-atoms-requires c κs =
       omega (arith, few-atoms c, u .take-objectives .ensures .1, u .take-objectives .kept .0, ap length (u .before .objectives .ensures) ∙ objective-bytes-counted _ p, p .counted .objectives, s .pre .1),
     )
 
--- src/order.rt:88:1
 same-length : tie.Need-same-length
 same-length c = search needs
 
--- src/order.rt:88:1
 returns : tie.Need-returns
 returns c =
     let r = c .before .before .take-atoms in

@@ -1,19 +1,17 @@
-use mathlib.Core.Path.{_≡_, refl, sym, ap, _∙_, subst}
-use mathlib.Core.List.{List}
+-- `sheet::order::take_atoms`: after a turns the order goes on with the atoms 1 to a. Assumes nothing.
 use Prim.Native.Nat.{ℕ, _+_, _-_, _≤_}
+use mathlib.Core.List.{List}
+use mathlib.Core.Path.{_≡_, refl, sym, ap, _∙_, subst}
 use native.Mathlib.Omega.{arith}
 use lib.ListN.{length}
-use Rattle.words.specs.Lists.{below}
+use Rattle.sheet.proofs.BranchLaws.{taking-atom}
+use Rattle.sheet.proofs.Literals.{atom-literal, literal-low}
+use Rattle.sheet.proofs.order.take_atoms.Statement.{statement}
+use Rattle.sheet.proofs.order.take_atoms.Tie as tie
 use Rattle.sheet.specs.Literals.{Lit}
 use Rattle.sheet.specs.Order.{taking, takingAll, ascending}
 use Rattle.sheet.specs.Passed.{Ordered}
-use Rattle.sheet.proofs.Literals.{atom-literal, literal-low}
-use Rattle.sheet.proofs.BranchLaws.{taking-atom}
-use Rattle.sheet.proofs.order.take_atoms.Statement.{statement}
-use Rattle.sheet.proofs.order.take_atoms.Tie as tie
-use Rattle.sheet.proofs.order.take_atoms.Reads as reads
-use Rattle.sheet.proofs.order.take_atoms.Lts as lts
-use Rattle.sheet.proofs.order.take_literal.Reads as take-literal-reads
+use Rattle.words.specs.Lists.{below}
 
 abbrev Inv-loop : tie.InvT-loop
 Inv-loop order₀ n o₀ a₀ order o a =
@@ -25,27 +23,22 @@ Inv-loop order₀ n o₀ a₀ order o a =
 abbrev μ-loop : tie.MeasureT-loop
 μ-loop order₀ n o₀ a₀ order o a = n - a
 
--- src/order.rt:80:5
 loop-holds : tie.Need-loop-holds Inv-loop μ-loop
 unfolding below
 loop-holds c = (omega arith, omega arith, refl, λ so before is. is)
 
--- src/order.rt:81:9
 add-a : tie.Need-add-a Inv-loop μ-loop
 add-a c = omega arith
 
--- src/order.rt:82:9
 take-literal-requires : tie.Need-take-literal-requires Inv-loop μ-loop
 take-literal-requires c κs =
     let l = c .before .before .loop in
     let u = c .before .before .before .before in
     (atom-literal (l .a + 1) (omega arith) (omega (arith, u .pre .0)), omega (arith, l .inv .1, l .inv .2, u .pre .1))
 
--- src/order.rt:80:5
 loop-less : tie.Need-loop-less Inv-loop μ-loop
 loop-less c = omega arith
 
--- src/order.rt:80:5
 loop-again : tie.Need-loop-again Inv-loop μ-loop
 loop-again c =
     let r = c .before .before .take-literal in
@@ -59,11 +52,9 @@ loop-again c =
           (r .ensures .0 _ before (l .loop .inv .3 so before is)),
     )
 
--- src/order.rt:74:1
 same-length : tie.Need-same-length Inv-loop μ-loop
 same-length c = c .before .loop .inv .2
 
--- src/order.rt:74:1
 returns : tie.Need-returns Inv-loop μ-loop
 returns c =
     let l = c .before .loop in

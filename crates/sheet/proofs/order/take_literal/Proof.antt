@@ -1,23 +1,18 @@
-use mathlib.Core.Path.{_≡_, sym, ap, _∙_, subst}
-use mathlib.Core.Bool.{Bool, false≢true}
+-- `sheet::order::take_literal`: the set tells whether the order names the literal's atom. Assumes nothing.
 use Prim.Native.Nat.{ℕ, _-_, _≤_}
+use mathlib.Core.Bool.{Bool, false≢true}
+use mathlib.Core.Path.{_≡_, sym, ap, _∙_, subst}
 use native.Mathlib.Omega.{arith}
 use lib.Dec.{lit≤}
-use Rattle.words.specs.Positions.{has, adding}
-use Rattle.sheet.specs.Literals.{atom, literal, byteOf}
+use borrow.Author.Needs.{needs}
+use Rattle.sheet.proofs.BranchLaws.{keeps, puts}
 use Rattle.sheet.proofs.Literals.{byte-of-literal}
 use Rattle.sheet.proofs.Numbers.{answered-neither, told-atom, told-range}
-use Rattle.sheet.proofs.BranchLaws.{keeps, puts}
-use borrow.Author.Needs.{needs}
 use Rattle.sheet.proofs.order.take_literal.Statement.{statement}
 use Rattle.sheet.proofs.order.take_literal.Tie as tie
-use Rattle.sheet.proofs.order.take_literal.Reads as reads
-use Rattle.sheet.proofs.order.take_literal.Lts as lts
-use Rattle.sheet.proofs.literal.literal_of.Reads as literal-of-reads
-use Rattle.words.proofs.adding.Reads as adding-reads
-use Rattle.words.proofs.has.Reads as has-reads
+use Rattle.sheet.specs.Literals.{atom, literal, byteOf}
+use Rattle.words.specs.Positions.{has, adding}
 
--- what the answer says of the byte
 in-atoms : (c : tie.After-atom) → (1 ≤ c .atom .given .0 .1 .0) × (c .atom .given .0 .1 .0 ≤ 64)
 in-atoms c =
     let u = c .before .before .before .before in
@@ -39,66 +34,52 @@ as-atom c e = ap (λ (a : ℕ). has (c .before .before .before .before .args .o 
 its-byte : (c : tie.After-atom) → byteOf (literal (c .before .before .before .before .args .b)) ≡ c .before .before .before .before .args .b
 its-byte c = let u = c .before .before .before .before in byte-of-literal 64 (u .args .b) (lit≤ tt) (u .fits .b .fits) (u .pre .0)
 
--- src/order.rt:39:11
 literal-of-requires : tie.Need-literal-of-requires
 literal-of-requires c κs = search needs
 
--- src/order.rt:40:24
 enum-known-atom : tie.Need-enum-known-atom
 enum-known-atom c = search needs
 
--- src/order.rt:41:36
 sub-has : tie.Need-sub-has
 sub-has c = in-atoms (c .before) .0
 
--- src/order.rt:41:16
 has-requires : tie.Need-has-requires
 has-requires c κs = search needs
 
--- src/order.rt:42:17
 returns : tie.Need-returns
 returns c =
     let u = c .before .before .before in
     let a = u .before .before .before .before .args in
     (λ so before is. keeps (literal (a .b)) is (some u) (as-atom u (sym (c .before .has .ensures) ∙ c .if1 .taken)), omega arith)
 
--- src/order.rt:45:13
 slice-write-order : tie.Need-slice-write-order
 slice-write-order c = search needs
 
--- src/order.rt:47:47
 sub-adding : tie.Need-sub-adding
 sub-adding c = in-atoms (c .before .before .before) .0
 
--- src/order.rt:47:24
 adding-requires : tie.Need-adding-requires
 adding-requires c κs = let r = in-atoms (c .before .before .before) in omega arith
 
--- src/order.rt:48:24
 add-t12 : tie.Need-add-t12
 add-t12 c = search needs
 
--- src/order.rt:51:29
 enum-told : tie.Need-enum-told
 enum-told c = search needs
 
--- src/order.rt:34:1
 same-length : tie.Need-same-length
 same-length c = search needs
 
--- src/order.rt:34:1
 returns-2 : tie.Need-returns-2
 returns-2 c =
     let u = c .before .before .before .before in
-    let s = u .before .before .before .before in
-    (
+    let s = u .before .before .before .before in (
       λ so before is.
           puts (literal (s .args .b)) is (some u) (as-atom u (sym (c .before .before .has .ensures) ∙ c .before .if1 .left)) (s .pre .1)
           (c .adding .ensures ∙ ap (λ (x : ℕ). adding (s .args .o .atoms) (x - 1)) (is-atom u)) (sym (its-byte u)),
       omega arith,
     )
 
--- src/order.rt:34:1
 returns-3 : tie.Need-returns-3
 returns-3 c = absurd (false≢true (answered-neither _ _ (c .before .before .literal-of .ensures) (c .enum-told .given .1) ∙ c .before .before .before .before .pre .0))
 

@@ -1,19 +1,17 @@
-use mathlib.Core.Path.{_≡_, refl, sym, ap, _∙_, subst}
+-- `sheet::order::take_objectives`: after i turns the order is that of the first i objectives. Assumes nothing.
+use Prim.Native.Nat.{ℕ, _-_, _≤_}
 use mathlib.Core.List.{List, [], map}
-use Prim.Native.Nat.{ℕ, _+_, _-_, _≤_}
+use mathlib.Core.Path.{_≡_, refl, sym, _∙_, subst}
 use native.Mathlib.Omega.{arith}
 use lib.ListN.{length, take}
 use lib.Seq.{take-all}
-use Rattle.words.proofs.Members.{all-out, mem-at}
-use Rattle.sheet.specs.Literals.{Lit, literal, isLiteral}
-use Rattle.sheet.specs.Order.{takingAll}
-use Rattle.sheet.specs.Passed.{Ordered}
 use Rattle.sheet.proofs.BranchLaws.{nothing-ordered, taking-next}
 use Rattle.sheet.proofs.order.take_objectives.Statement.{statement}
 use Rattle.sheet.proofs.order.take_objectives.Tie as tie
-use Rattle.sheet.proofs.order.take_objectives.Reads as reads
-use Rattle.sheet.proofs.order.take_objectives.Lts as lts
-use Rattle.sheet.proofs.order.take_literal.Reads as take-literal-reads
+use Rattle.sheet.specs.Literals.{Lit, literal, isLiteral}
+use Rattle.sheet.specs.Order.{takingAll}
+use Rattle.sheet.specs.Passed.{Ordered}
+use Rattle.words.proofs.Members.{all-out, mem-at}
 
 abbrev Inv-loop : tie.InvT-loop
 Inv-loop order₀ bytes o₀ i₀ order o i = (i ≤ length bytes) × (o .count ≤ i) × (length order ≡ length order₀) × Ordered (takingAll [] (map literal (take i bytes))) order₀ o order
@@ -21,30 +19,24 @@ Inv-loop order₀ bytes o₀ i₀ order o i = (i ≤ length bytes) × (o .count 
 abbrev μ-loop : tie.MeasureT-loop
 μ-loop order₀ bytes o₀ i₀ order o i = length bytes - i
 
--- src/order.rt:66:5
 loop-holds : tie.Need-loop-holds Inv-loop μ-loop
 loop-holds c = (omega arith, omega arith, refl, nothing-ordered (c .before .before .args .order .now))
 
--- src/order.rt:67:36
 shared-slice-read-take-literal : tie.Need-shared-slice-read-take-literal Inv-loop μ-loop
 shared-slice-read-take-literal c = omega arith
 
--- src/order.rt:67:9
 take-literal-requires : tie.Need-take-literal-requires Inv-loop μ-loop
 take-literal-requires c κs =
     let l = c .before .before .before in
     let u = l .before .before .before in
     (all-out (isLiteral 64) (u .args .bytes .now) (u .pre .0) _ (mem-at 0 (u .args .bytes .now) (l .loop .i) (omega arith)), omega (arith, l .loop .inv .1, l .loop .inv .2, u .pre .1))
 
--- src/order.rt:68:9
 add-i : tie.Need-add-i Inv-loop μ-loop
 add-i c = omega arith
 
--- src/order.rt:66:5
 loop-less : tie.Need-loop-less Inv-loop μ-loop
 loop-less c = omega arith
 
--- src/order.rt:66:5
 loop-again : tie.Need-loop-again Inv-loop μ-loop
 loop-again c =
     let r = c .before .before .take-literal in
@@ -56,11 +48,9 @@ loop-again c =
       subst (λ (so : List Lit). Ordered so (a .order .now) (r .result) (r .last .0)) (sym (taking-next [] (a .bytes .now) (l .loop .i) (omega arith))) (r .ensures .0 _ _ (l .loop .inv .3)),
     )
 
--- src/order.rt:56:1
 same-length : tie.Need-same-length Inv-loop μ-loop
 same-length c = c .before .loop .inv .2
 
--- src/order.rt:56:1
 returns : tie.Need-returns Inv-loop μ-loop
 returns c =
     let l = c .before .loop in

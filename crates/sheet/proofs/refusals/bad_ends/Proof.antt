@@ -1,21 +1,19 @@
+-- `sheet::refusals::bad_ends`: after i turns the start is that of clause i, and what is left is the test of the clauses from i on. Assumes nothing.
 use Prim.Native.Nat.{ℕ, _+_, _-_, _≤_}
-use mathlib.Core.Path.{_≡_, refl, sym, ap, ap₂, _∙_}
 use mathlib.Core.Bool.{Bool, true, false, not, _||_}
+use mathlib.Core.Path.{_≡_, refl, sym, ap, ap₂, _∙_}
 use native.Mathlib.Omega.{arith}
 use lib.Dec.{ltb, eqb}
-use lib.ListN.{length, drop}
-use borrow.Author.Tests.{lt-ltb, le-ltb, eq-eqb, ne-eqb}
-use Rattle.words.specs.Lists.{any, below}
-use Rattle.words.proofs.Lists.{any-number, any-numbers-end}
-use Rattle.sheet.specs.Layout.{clauseCount, literalCount, clauseStart, clauseEnd}
-use Rattle.sheet.specs.Reading.{falls, badEnds}
-use Rattle.sheet.proofs.Table.{ends-are, start-next}
+use lib.ListN.{drop}
 use borrow.Author.Needs.{needs}
+use borrow.Author.Tests.{lt-ltb, le-ltb, eq-eqb, ne-eqb}
+use Rattle.sheet.proofs.Table.{ends-are, start-next}
 use Rattle.sheet.proofs.refusals.bad_ends.Statement.{statement}
 use Rattle.sheet.proofs.refusals.bad_ends.Tie as tie
-use Rattle.sheet.proofs.refusals.bad_ends.Reads as reads
-use Rattle.sheet.proofs.refusals.bad_ends.Lts as lts
-use Rattle.sheet.proofs.bytes.word_at.Reads as word-at-reads
+use Rattle.sheet.specs.Layout.{literalCount, clauseStart}
+use Rattle.sheet.specs.Reading.{falls, badEnds}
+use Rattle.words.proofs.Lists.{any-number, any-numbers-end}
+use Rattle.words.specs.Lists.{any, below}
 
 abbrev Inv-loop : tie.InvT-loop
 Inv-loop s clauses start₀ i₀ start i =
@@ -54,60 +52,47 @@ past c =
     let e : l .loop .i ≡ l .before .word-at .result = omega arith in
     (l .loop .inv .2 ∙ any-numbers-end (falls s) (l .before .word-at .result) (l .loop .i) (c .loop-test .left), l .loop .inv .1 ∙ ap (clauseStart s) e)
 
--- src/refusals.rt:69:19
 word-at-requires : tie.Need-word-at-requires Inv-loop μ-loop
 word-at-requires c κs = search needs
 
--- src/refusals.rt:69:19
 cast-clauses : tie.Need-cast-clauses Inv-loop μ-loop
 cast-clauses c = search needs
 
--- src/refusals.rt:72:5
 loop-holds : tie.Need-loop-holds Inv-loop μ-loop
 loop-holds c = (omega arith, refl, refl)
 
--- src/refusals.rt:73:35
 mul-word-at : tie.Need-mul-word-at Inv-loop μ-loop
 mul-word-at c = omega arith
 
--- src/refusals.rt:73:30
 add-word-at : tie.Need-add-word-at Inv-loop μ-loop
 add-word-at c = omega arith
 
--- src/refusals.rt:73:13
 word-at-requires-2 : tie.Need-word-at-requires-2 Inv-loop μ-loop
 word-at-requires-2 c κs = omega arith
 
--- src/refusals.rt:75:13
 returns : tie.Need-returns Inv-loop μ-loop
 returns c =
     found (c .before .before .before .before) (next (c .before) (lt-ltb _ _ (c .if1 .taken))) refl
 
--- src/refusals.rt:78:9
 add-i : tie.Need-add-i Inv-loop μ-loop
 add-i c = omega arith
 
--- src/refusals.rt:72:5
 loop-less : tie.Need-loop-less Inv-loop μ-loop
 loop-less c = omega arith
 
--- src/refusals.rt:72:5
 loop-again : tie.Need-loop-again Inv-loop μ-loop
 loop-again c =
     let l = c .before .before .before in
     (omega arith, c .before .word-at2 .ensures ∙ sym (start-next (l .before .before .before .args .s .now) (l .loop .i)), next (c .before) (le-ltb _ _ (c .if1 .left)))
 
--- src/refusals.rt:80:17
 word-at-requires-3 : tie.Need-word-at-requires-3 Inv-loop μ-loop
 word-at-requires-3 c κs = search needs
 
--- src/refusals.rt:81:9
 returns-2 : tie.Need-returns-2 Inv-loop μ-loop
 returns-2 c =
     let u = c .before .before in
     found (u .before .before) (past u .0) (ne-eqb _ _ (λ e. c .if2 .taken (past u .1 ∙ e ∙ sym (c .before .word-at3 .ensures))))
 
--- src/refusals.rt:65:1
 returns-3 : tie.Need-returns-3 Inv-loop μ-loop
 returns-3 c =
     let u = c .before .before in

@@ -1,69 +1,52 @@
-use mathlib.Core.Path.{_∙_}
+-- `sheet::refusals::bad_literal`: the part that is handed on is that of the literals. Assumes nothing.
 use Prim.Native.Nat.{_+_, _*_}
-use Rattle.words.specs.Lists.{any}
-use Rattle.sheet.specs.Layout.{part}
-use Rattle.sheet.specs.Reading.{noLiteral, badLiteral}
+use mathlib.Core.Path.{_∙_}
 use borrow.Author.Needs.{needs}
 use Rattle.sheet.proofs.refusals.bad_literal.Statement.{statement}
 use Rattle.sheet.proofs.refusals.bad_literal.Tie as tie
-use Rattle.sheet.proofs.refusals.bad_literal.Reads as reads
-use Rattle.sheet.proofs.refusals.bad_literal.Lts as lts
-use Rattle.sheet.proofs.bytes.word_at.Reads as word-at-reads
-use Rattle.sheet.proofs.refusals.any_bad.Reads as any-bad-reads
+use Rattle.sheet.specs.Layout.{part}
+use Rattle.sheet.specs.Reading.{noLiteral, badLiteral}
+use Rattle.words.specs.Lists.{any}
 
--- src/refusals.rt:104:25
 word-at-requires : tie.Need-word-at-requires
 word-at-requires c κs = search needs
 
--- src/refusals.rt:104:25
 cast-from : tie.Need-cast-from
 cast-from c = search needs
 
--- src/refusals.rt:104:21
 mul-from : tie.Need-mul-from
 mul-from c = search needs
 
--- src/refusals.rt:104:16
 add-from : tie.Need-add-from
 add-from c = search needs
 
--- src/refusals.rt:105:21
 word-at-requires-2 : tie.Need-word-at-requires-2
 word-at-requires-2 c κs = search needs
 
--- src/refusals.rt:105:21
 cast-to : tie.Need-cast-to
 cast-to c = search needs
 
--- src/refusals.rt:105:14
 add-to : tie.Need-add-to
 add-to c = search needs
 
--- src/refusals.rt:106:13
 sub-any-bad : tie.Need-sub-any-bad
 sub-any-bad c = search needs
 
--- src/refusals.rt:106:13
 part-any-bad-start : tie.Need-part-any-bad-start
 part-any-bad-start c = search needs
 
--- src/refusals.rt:106:13
 part-any-bad-end : tie.Need-part-any-bad-end
 part-any-bad-end c = search needs
 
--- src/refusals.rt:106:27
 word-at-requires-3 : tie.Need-word-at-requires-3
 word-at-requires-3 c κs = search needs
 
--- src/refusals.rt:106:27
 cast-any-bad : tie.Need-cast-any-bad
 cast-any-bad c = search needs
 
--- src/refusals.rt:106:5
 any-bad-requires : tie.Need-any-bad-requires
 any-bad-requires c κs = search needs
 
--- src/refusals.rt:100:1
 returns : tie.Need-returns
 unfolding badLiteral
 returns c =

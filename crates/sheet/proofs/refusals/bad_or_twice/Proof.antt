@@ -1,20 +1,15 @@
-use Prim.Native.Nat.{ℕ, _+_, _-_, _≤_}
-use mathlib.Core.Path.{_≡_, refl, sym, ap, ap₂, _∙_}
+-- `sheet::refusals::bad_or_twice`: what is left is the test of the positions from i on, and, of position i, the test of the positions before it from j on. Assumes nothing.
+use Prim.Native.Nat.{_+_, _-_, _≤_}
 use mathlib.Core.Bool.{Bool, true, false, not, _||_}
+use mathlib.Core.Path.{_≡_, refl, sym, ap₂, _∙_}
 use native.Mathlib.Omega.{arith}
-use lib.Dec.{eqb}
 use lib.ListN.{length, drop}
 use borrow.Author.Tests.{eq-eqb, ne-eqb}
-use Rattle.words.specs.Lists.{any, below}
-use Rattle.words.proofs.Lists.{any-number, any-numbers-end}
-use Rattle.sheet.specs.Literals.{isLiteral}
-use Rattle.sheet.specs.Layout.{byte}
-use Rattle.sheet.specs.Reading.{same, badAt, badObjective}
 use Rattle.sheet.proofs.refusals.bad_or_twice.Statement.{statement}
 use Rattle.sheet.proofs.refusals.bad_or_twice.Tie as tie
-use Rattle.sheet.proofs.refusals.bad_or_twice.Reads as reads
-use Rattle.sheet.proofs.refusals.bad_or_twice.Lts as lts
-use Rattle.sheet.proofs.literal.is_literal.Reads as is-literal-reads
+use Rattle.sheet.specs.Reading.{same, badAt, badObjective}
+use Rattle.words.proofs.Lists.{any-number, any-numbers-end}
+use Rattle.words.specs.Lists.{any, below}
 
 abbrev Inv-loop : tie.InvT-loop
 Inv-loop bytes n bad₀ i j₀ bad j = (j ≤ i) × (bad ≡ false) × (any (same bytes i) (below i) ≡ any (same bytes i) (drop j (below i)))
@@ -51,52 +46,40 @@ earlier c e =
     let o = l .before .before .before .before .before in
     l .loop .inv .2 ∙ any-number (same (o .before .before .args .bytes .now) (o .all .i)) (o .all .i) (l .loop .j) (c .before .before .loop-test .taken) e
 
--- src/refusals.rt:118:5
 all-holds : tie.Need-all-holds Inv-loop μ-loop Inv-all μ-all
 unfolding badObjective
 all-holds c = (omega arith, refl, refl)
 
--- src/refusals.rt:119:23
 shared-slice-read-is-literal : tie.Need-shared-slice-read-is-literal Inv-loop μ-loop Inv-all μ-all
 shared-slice-read-is-literal c = omega arith
 
--- src/refusals.rt:119:12
 is-literal-requires : tie.Need-is-literal-requires Inv-loop μ-loop Inv-all μ-all
 is-literal-requires c κs = c .before .before .before .before .pre
 
--- src/refusals.rt:121:13
 loop-holds : tie.Need-loop-holds Inv-loop μ-loop Inv-all μ-all
 loop-holds c = (omega arith, c .before .before .before .before .all .inv .1, refl)
 
--- src/refusals.rt:122:20
 shared-slice-read-if2 : tie.Need-shared-slice-read-if2 Inv-loop μ-loop Inv-all μ-all
 shared-slice-read-if2 c = omega arith
 
--- src/refusals.rt:122:32
 shared-slice-read-if2-2 : tie.Need-shared-slice-read-if2-2 Inv-loop μ-loop Inv-all μ-all
 shared-slice-read-if2-2 c = omega arith
 
--- src/refusals.rt:126:17
 add-j : tie.Need-add-j Inv-loop μ-loop Inv-all μ-all
 add-j c = omega arith
 
--- src/refusals.rt:121:13
 loop-less : tie.Need-loop-less Inv-loop μ-loop Inv-all μ-all
 loop-less c = omega arith
 
--- src/refusals.rt:121:13
 loop-again : tie.Need-loop-again Inv-loop μ-loop Inv-all μ-all
 loop-again c = (omega arith, c .before .before .before .before .loop .inv .1, earlier (c .before) (ne-eqb _ _ (c .if2 .left)))
 
--- src/refusals.rt:132:9
 add-i : tie.Need-add-i Inv-loop μ-loop Inv-all μ-all
 add-i c = omega arith
 
--- src/refusals.rt:118:5
 all-less : tie.Need-all-less Inv-loop μ-loop Inv-all μ-all
 all-less c = omega arith
 
--- src/refusals.rt:118:5
 all-again : tie.Need-all-again Inv-loop μ-loop Inv-all μ-all
 all-again c =
     let l = c .before in
@@ -106,20 +89,17 @@ all-again c =
       next (l .before .before) (l .before .if1 .taken) (l .loop .inv .2 ∙ any-numbers-end (same (o .before .before .args .bytes .now) (o .all .i)) (o .all .i) (l .loop .j) (c .loop-test .left)),
     )
 
--- src/refusals.rt:112:1
 returns : tie.Need-returns Inv-loop μ-loop Inv-all μ-all
 returns c =
     let l = c .before in
     let a = l .before .before .args in
     l .all .inv .1 ∙ sym (l .all .inv .2 ∙ any-numbers-end (badAt (a .n) (a .bytes .now)) (length (a .bytes .now)) (l .all .i) (c .all-test .left))
 
--- src/refusals.rt:112:1
 returns-2 : tie.Need-returns-2 Inv-loop μ-loop Inv-all μ-all
 returns-2 c =
     let u = c .before .before .before .before .before in
     sym (next (u .before) (u .if1 .taken) (earlier (c .before) (eq-eqb _ _ (c .if2 .taken))))
 
--- src/refusals.rt:112:1
 returns-3 : tie.Need-returns-3 Inv-loop μ-loop Inv-all μ-all
 returns-3 c = sym (next (c .before) (c .if1 .left) refl)
 

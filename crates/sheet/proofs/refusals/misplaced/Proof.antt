@@ -1,18 +1,15 @@
-use mathlib.Core.Path.{_≡_, refl, sym, ap, ap₂, _∙_}
-use mathlib.Core.Bool.{true, false}
+-- `sheet::refusals::misplaced`: each return is the row by the words that were found right before. Assumes nothing.
 use Prim.Native.Nat.{ℕ, _+_, _*_}
+use mathlib.Core.Bool.{true, false}
+use mathlib.Core.Path.{_≡_, refl, sym, ap, ap₂, _∙_}
 use lib.Dec.{eqb}
-use borrow.Author.Tests.{eq-eqb, ne-eqb}
-use Rattle.sheet.specs.Layout.{header, endsAt, literalsAt, objectivesAt, totalBytes}
-use Rattle.sheet.proofs.Table.{misplaced-is}
 use borrow.Author.Needs.{needs}
+use borrow.Author.Tests.{eq-eqb, ne-eqb}
+use Rattle.sheet.proofs.Table.{misplaced-is}
 use Rattle.sheet.proofs.refusals.misplaced.Statement.{statement}
 use Rattle.sheet.proofs.refusals.misplaced.Tie as tie
-use Rattle.sheet.proofs.refusals.misplaced.Reads as reads
-use Rattle.sheet.proofs.refusals.misplaced.Lts as lts
-use Rattle.sheet.proofs.bytes.word_at.Reads as word-at-reads
+use Rattle.sheet.specs.Layout.{header, endsAt, literalsAt, objectivesAt, totalBytes}
 
--- a word that was read, against a number that was computed
 same : {r x y z : ℕ} → r ≡ x → y ≡ z → r ≡ y → eqb x z ≡ true
 same {x = x} {z = z} e f h = eq-eqb x z (sym e ∙ h ∙ f)
 
@@ -42,85 +39,67 @@ objectives-right c = same (c .before .word-at6 .ensures) (objectives-at (c .befo
 total-right : (c : tie.Else4) → let s = c .before .before .before .before .before .before .before .before .before .before .before .before .args .s .now in eqb (header s 7) (totalBytes s) ≡ true
 total-right c = same (c .before .word-at7 .ensures) (total (c .before .before .before .before .before .before .before .before)) (c .if4 .left)
 
--- src/refusals.rt:43:32
 word-at-requires : tie.Need-word-at-requires
 word-at-requires c κs = search needs
 
--- src/refusals.rt:43:28
 mul-literals-at : tie.Need-mul-literals-at
 mul-literals-at c = search needs
 
--- src/refusals.rt:43:23
 add-literals-at : tie.Need-add-literals-at
 add-literals-at c = search needs
 
--- src/refusals.rt:44:39
 word-at-requires-2 : tie.Need-word-at-requires-2
 word-at-requires-2 c κs = search needs
 
--- src/refusals.rt:44:25
 add-objectives-at : tie.Need-add-objectives-at
 add-objectives-at c = search needs
 
--- src/refusals.rt:45:33
 word-at-requires-3 : tie.Need-word-at-requires-3
 word-at-requires-3 c κs = search needs
 
--- src/refusals.rt:45:17
 add-total : tie.Need-add-total
 add-total c = search needs
 
--- src/refusals.rt:46:8
 word-at-requires-4 : tie.Need-word-at-requires-4
 word-at-requires-4 c κs = search needs
 
--- src/refusals.rt:47:9
 returns : tie.Need-returns
 returns c = misplaced-is _ (other (c .before .word-at4 .ensures) refl (c .if1 .taken)) refl refl refl refl
 
--- src/refusals.rt:49:8
 word-at-requires-5 : tie.Need-word-at-requires-5
 word-at-requires-5 c κs = search needs
 
--- src/refusals.rt:50:9
 returns-2 : tie.Need-returns-2
 returns-2 c =
     let u = c .before .before in
     misplaced-is _ (ends-right u) (other (c .before .word-at5 .ensures) (literals-at (u .before .before .before .before)) (c .if2 .taken)) refl refl refl
 
--- src/refusals.rt:52:8
 word-at-requires-6 : tie.Need-word-at-requires-6
 word-at-requires-6 c κs = search needs
 
--- src/refusals.rt:53:9
 returns-3 : tie.Need-returns-3
 returns-3 c =
     let u = c .before .before in
     misplaced-is _ (ends-right (u .before .before)) (literals-right u) (other (c .before .word-at6 .ensures) (objectives-at (u .before .before .before .before .before)) (c .if3 .taken)) refl refl
 
--- src/refusals.rt:55:8
 word-at-requires-7 : tie.Need-word-at-requires-7
 word-at-requires-7 c κs = search needs
 
--- src/refusals.rt:56:9
 returns-4 : tie.Need-returns-4
 returns-4 c =
     let u = c .before .before in
     misplaced-is _ (ends-right (u .before .before .before .before)) (literals-right (u .before .before)) (objectives-right u)
     (other (c .before .word-at7 .ensures) (total (u .before .before .before .before .before .before)) (c .if4 .taken)) refl
 
--- src/refusals.rt:58:19
 cast-if5 : tie.Need-cast-if5
 cast-if5 c = search needs
 
--- src/refusals.rt:59:9
 returns-5 : tie.Need-returns-5
 returns-5 c =
     let u = c .before .before .before in
     misplaced-is _ (ends-right (u .before .before .before .before)) (literals-right (u .before .before)) (objectives-right u) (total-right (c .before))
     (other refl (sym (c .before .if4 .left) ∙ c .before .before .word-at7 .ensures) (c .if5 .taken))
 
--- src/refusals.rt:39:1
 returns-6 : tie.Need-returns-6
 returns-6 c =
     let u = c .before .before .before in

@@ -1,18 +1,15 @@
-use mathlib.Core.Path.{_≡_, refl}
-use mathlib.Core.Bool.{true}
+-- `sheet::refusals::out_of_range`: each return is the row by the tests that led there. Assumes nothing.
 use Prim.Native.Nat.{zero-le}
-use Rattle.sheet.specs.Literals.{between}
-use Rattle.sheet.specs.Layout.{atomCount, clauseCount, objectiveCount}
+use mathlib.Core.Bool.{true}
+use mathlib.Core.Path.{_≡_, refl}
+use borrow.Author.Needs.{needs}
 use Rattle.sheet.proofs.Literals.{read-inside, read-below, read-past}
 use Rattle.sheet.proofs.Table.{out-is}
-use borrow.Author.Needs.{needs}
 use Rattle.sheet.proofs.refusals.out_of_range.Statement.{statement}
 use Rattle.sheet.proofs.refusals.out_of_range.Tie as tie
-use Rattle.sheet.proofs.refusals.out_of_range.Reads as reads
-use Rattle.sheet.proofs.refusals.out_of_range.Lts as lts
-use Rattle.sheet.proofs.bytes.word_at.Reads as word-at-reads
+use Rattle.sheet.specs.Layout.{atomCount, clauseCount, objectiveCount}
+use Rattle.sheet.specs.Literals.{between}
 
--- the counts that were found in range
 atoms-in : (c : tie.Else2) → between 1 64 (atomCount (c .before .before .before .before .args .s .now)) ≡ true
 atoms-in c = read-inside 1 64 (c .before .before .word-at .ensures) (c .before .if1 .left) (c .if2 .left)
 
@@ -22,45 +19,35 @@ clauses-in c = read-inside 0 1024 (c .before .word-at2 .ensures) zero-le (c .if3
 objectives-in : (c : tie.Else4) → between 0 64 (objectiveCount (c .before .before .before .before .before .before .before .before .args .s .now)) ≡ true
 objectives-in c = read-inside 0 64 (c .before .word-at3 .ensures) zero-le (c .if4 .left)
 
--- src/refusals.rt:19:9
 word-at-requires : tie.Need-word-at-requires
 word-at-requires c κs = search needs
 
--- src/refusals.rt:21:9
 returns : tie.Need-returns
 returns c = out-is _ (read-below 1 64 (c .before .word-at .ensures) (c .if1 .taken)) refl refl refl
 
--- src/refusals.rt:24:9
 returns-2 : tie.Need-returns-2
 returns-2 c = out-is _ (read-past 1 64 (c .before .before .word-at .ensures) (c .if2 .taken)) refl refl refl
 
--- src/refusals.rt:26:15
 word-at-requires-2 : tie.Need-word-at-requires-2
 word-at-requires-2 c κs = search needs
 
--- src/refusals.rt:27:9
 returns-3 : tie.Need-returns-3
 returns-3 c = out-is _ (atoms-in (c .before .before)) (read-past 0 1024 (c .before .word-at2 .ensures) (c .if3 .taken)) refl refl
 
--- src/refusals.rt:29:13
 word-at-requires-3 : tie.Need-word-at-requires-3
 word-at-requires-3 c κs = search needs
 
--- src/refusals.rt:30:9
 returns-4 : tie.Need-returns-4
 returns-4 c = out-is _ (atoms-in (c .before .before .before .before)) (clauses-in (c .before .before)) (read-past 0 64 (c .before .word-at3 .ensures) (c .if4 .taken)) refl
 
--- src/refusals.rt:32:15
 word-at-requires-4 : tie.Need-word-at-requires-4
 word-at-requires-4 c κs = search needs
 
--- src/refusals.rt:33:9
 returns-5 : tie.Need-returns-5
 returns-5 c =
     let u = c .before .before in
     out-is _ (atoms-in (u .before .before .before .before)) (clauses-in (u .before .before)) (objectives-in u) (read-past 0 8192 (c .before .word-at4 .ensures) (c .if5 .taken))
 
--- src/refusals.rt:15:1
 returns-6 : tie.Need-returns-6
 returns-6 c =
     let u = c .before .before in
