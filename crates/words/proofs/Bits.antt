@@ -16,7 +16,7 @@ use Rattle.words.specs.Positions.{has, adding, setOf}
 
 -- ---- a bit is 0 or 1
 
-data Bit : ℕ → Type 0 where
+pub data Bit : ℕ → Type 0 where
   nought : Bit 0
   one : Bit 1
 
@@ -25,7 +25,7 @@ bit zero h = nought
 bit (suc zero) h = one
 bit (suc (suc x)) h = absurd (omega arith)
 
-low : (x : ℕ) → Bit (x % 2)
+pub low : (x : ℕ) → Bit (x % 2)
 low x = bit (x % 2) (omega arith)
 
 -- the test of the smaller, and of the larger, of two bits

@@ -4,3 +4,4 @@ pub mod Lists
 pub mod Members
 pub mod Bits
 pub mod Containment
+pub mod Counting

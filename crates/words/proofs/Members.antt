@@ -7,7 +7,7 @@ use mathlib.Core.Path.{_≡_, refl, sym, ap, _∙_}
 use native.Mathlib.Nat.{eq-or-lt-of-le, le-of-suc-le-suc}
 use native.Mathlib.Omega.{arith}
 use lib.ListN.{length, getD}
-use Rattle.words.specs.Lists.{any, all, below, Distinct}
+use Rattle.words.specs.Lists.{any, all, pick, below, Distinct}
 
 -- ---- tests and members
 
@@ -54,6 +54,14 @@ module _ {A : Type 0} (f : A → Bool) where
       go : (b : Bool) → f x ≡ b → any f (xs ++ ys) ≡ (any f xs || any f ys) → any f (x ∷ (xs ++ ys)) ≡ (any f (x ∷ xs) || any f ys)
       go true e later = rw (e, any)
       go false e later = rw (e, any) later
+
+  pub pick-append : (xs ys : List A) → pick f (xs ++ ys) ≡ pick f xs ++ pick f ys
+  pick-append [] ys = refl
+  pick-append (x ∷ xs) ys = go (f x) refl (pick-append xs ys)
+    where
+      go : (b : Bool) → f x ≡ b → pick f (xs ++ ys) ≡ pick f xs ++ pick f ys → pick f (x ∷ (xs ++ ys)) ≡ pick f (x ∷ xs) ++ pick f ys
+      go true e later = rw (e, pick) (ap (λ (l : List A). x ∷ l) later)
+      go false e later = rw (e, pick) later
 
 -- ---- members and places
 
