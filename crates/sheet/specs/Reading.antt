@@ -36,6 +36,7 @@ falls s i = ltb (clauseEnd s i) (clauseStart s i)
 unfoldable pub badEnds : List ℕ → Bool
 badEnds s = any (falls s) (below (clauseCount s)) || not (eqb (clauseStart s (clauseCount s)) (literalCount s))
 
+-- the byte is no literal of n atoms
 abbrev pub noLiteral : ℕ → ℕ → Bool
 noLiteral n b = not (isLiteral n b)
 
