@@ -1,3 +1,10 @@
 -- The theory of the search, and the worked cases.
 pub mod Fair
+pub mod Walking
+pub mod Actions
+pub mod Picking
+pub mod Past
+pub mod Correct
+pub mod Allowance
+pub mod Larger
 pub mod Cases

@@ -10,12 +10,12 @@ use lib.Seq.{getD-take, getD-drop}
 use borrow.Author.Tests.{ltb-false, eqb-true, not-false}
 use Rattle.sheet.proofs.Literals.{more-atoms}
 use Rattle.sheet.proofs.Understood.{length-part, passed}
-use Rattle.sheet.specs.Answers.{clauseOf}
+use Rattle.sheet.specs.Answers.{setsOf}
 use Rattle.sheet.specs.Layout.{atomCount, clauseCount, literalCount, literalsAt, objectivesAt, clauseStart, clauseEnd, clauseBytes, literalBytes, part}
 use Rattle.sheet.specs.Literals.{Lit, pos, neg, literal, isLiteral}
 use Rattle.sheet.specs.Order.{plains, negated}
 use Rattle.sheet.specs.Reading.{falls, noLiteral, badEnds, badLiteral, Accepted}
-use Rattle.sheet.specs.declared.clauses.Clause.{Clause}
+use Rattle.sheet.specs.declared.clauses.Literals.{Literals}
 use Rattle.words.proofs.Bools.{or-split}
 use Rattle.words.proofs.Lists.{length-below, put-next, map-below-next}
 use Rattle.words.proofs.Members.{any-none, all-in, mem-at, at-mem, in-below}
@@ -79,17 +79,17 @@ module _ (s : List ℕ) (ok : Accepted s) where
 
 -- ---- one literal more in a clause's two sets
 
-abbrev sets : ℕ → ℕ → Clause
+abbrev sets : ℕ → ℕ → Literals
 sets p q = record { plains = p; negated = q }
 
-module _ (ls : List Lit) (a : ℕ) {c : Clause} {r : ℕ} (e : c ≡ clauseOf ls) where
-  pub with-plain : r ≡ adding (c .plains) (a - 1) → sets r (c .negated) ≡ clauseOf (pos a ∷ ls)
+module _ (ls : List Lit) (a : ℕ) {c : Literals} {r : ℕ} (e : c ≡ setsOf ls) where
+  pub with-plain : r ≡ adding (c .plains) (a - 1) → sets r (c .negated) ≡ setsOf (pos a ∷ ls)
   unfolding plains negated setOf
-  with-plain f = ap (λ (p : ℕ). sets p (c .negated)) f ∙ ap (λ (w : Clause). sets (adding (w .plains) (a - 1)) (w .negated)) e
+  with-plain f = ap (λ (p : ℕ). sets p (c .negated)) f ∙ ap (λ (w : Literals). sets (adding (w .plains) (a - 1)) (w .negated)) e
 
-  pub with-negated : r ≡ adding (c .negated) (a - 1) → sets (c .plains) r ≡ clauseOf (neg a ∷ ls)
+  pub with-negated : r ≡ adding (c .negated) (a - 1) → sets (c .plains) r ≡ setsOf (neg a ∷ ls)
   unfolding plains negated setOf
-  with-negated f = ap (λ (q : ℕ). sets (c .plains) q) f ∙ ap (λ (w : Clause). sets (w .plains) (adding (w .negated) (a - 1))) e
+  with-negated f = ap (λ (q : ℕ). sets (c .plains) q) f ∙ ap (λ (w : Literals). sets (w .plains) (adding (w .negated) (a - 1))) e
 
 -- ---- the sets of the first clauses, as a list is filled with them
 

@@ -8,7 +8,7 @@ use Rattle.sheet.specs.Order.{plains, negated}
 use Rattle.sheet.specs.Reading.{Reading, refused, understood}
 use Rattle.sheet.specs.declared.Checked.the-variants.{Refused, Accepted}
 use Rattle.sheet.specs.declared.Checked.{Checked}
-use Rattle.sheet.specs.declared.clauses.Clause.{Clause}
+use Rattle.sheet.specs.declared.clauses.Literals.{Literals}
 use Rattle.sheet.specs.declared.literal.Literal.the-variants.{Of, Neither}
 use Rattle.sheet.specs.declared.literal.Literal.{Literal}
 
@@ -21,6 +21,6 @@ answer (understood x) = Accepted (x .atoms) (length (x .clauses)) (length (x .ob
 abbrev pub literalAnswer : ℕ → ℕ → Literal
 literalAnswer n b = cond (isLiteral n b) (Of (plain (literal b)) (atom (literal b))) Neither
 
--- a clause as the two sets of its atoms
-abbrev pub clauseOf : List Lit → Clause
-clauseOf c = record { plains = plains c; negated = negated c }
+-- some literals as the two sets of their atoms
+abbrev pub setsOf : List Lit → Literals
+setsOf c = record { plains = plains c; negated = negated c }

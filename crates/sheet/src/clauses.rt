@@ -9,31 +9,31 @@ ghost use Rattle.sheet.specs.Literals.{Lit, literal, isLiteral};
 ghost use Rattle.sheet.specs.Layout.{clauseCount};
 ghost use Rattle.sheet.specs.Reading.{sheetOf, Accepted};
 ghost use Rattle.sheet.specs.Order.{plains as plainAtoms, negated as negatedAtoms};
-ghost use Rattle.sheet.specs.Answers.{clauseOf};
+ghost use Rattle.sheet.specs.Answers.{setsOf};
 use crate::bytes::word_at;
 use crate::literal::Literal;
 use crate::literal::literal_of;
 
-// A clause: the atoms that stand in it, and those that stand negated.
-pub struct Clause {
+// A set of literals, as a clause is one: the atoms that stand in it, and those that stand negated.
+pub struct Literals {
     pub plains: u64,
     pub negated: u64,
 }
 
-// The clause with one literal more in front.
-fn with_literal(c: Clause, b: u8) -> Clause
+// The set with one literal more.
+pub fn with_literal(c: Literals, b: u8) -> Literals
     requires { ⌜ isLiteral 64 b ≡ true ⌝ }
-    ensures { λ r. ⌜ ((ls : List Lit) → c ≡ clauseOf ls → r ≡ clauseOf (literal b ∷ ls)) ⌝ }
+    ensures { λ r. ⌜ ((ls : List Lit) → c ≡ setsOf ls → r ≡ setsOf (literal b ∷ ls)) ⌝ }
 {
     match literal_of(b, 64) {
         Literal::Of(plain, atom) => {
             if plain {
-                return Clause {
+                return Literals {
                     plains: words::adding(c.plains, atom - 1),
                     negated: c.negated,
                 };
             }
-            Clause {
+            Literals {
                 plains: c.plains,
                 negated: words::adding(c.negated, atom - 1),
             }
@@ -43,11 +43,11 @@ fn with_literal(c: Clause, b: u8) -> Clause
 }
 
 // The clause of some literal bytes.
-fn clause_of(bytes: &[u8]) -> Clause
+fn clause_of(bytes: &[u8]) -> Literals
     requires { ⌜ all (isLiteral 64) (now bytes) ≡ true ⌝ }
-    ensures { λ r. ⌜ r ≡ clauseOf (map literal (now (bytes .entry))) ⌝ }
+    ensures { λ r. ⌜ r ≡ setsOf (map literal (now (bytes .entry))) ⌝ }
 {
-    let mut c = Clause {
+    let mut c = Literals {
         plains: 0,
         negated: 0,
     };

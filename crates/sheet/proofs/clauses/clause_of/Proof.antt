@@ -7,7 +7,7 @@ use lib.ListN.{length, drop}
 use lib.Seq.{drop-length}
 use Rattle.sheet.proofs.clauses.clause_of.Statement.{statement}
 use Rattle.sheet.proofs.clauses.clause_of.Tie as tie
-use Rattle.sheet.specs.Answers.{clauseOf}
+use Rattle.sheet.specs.Answers.{setsOf}
 use Rattle.sheet.specs.Layout.{byte}
 use Rattle.sheet.specs.Literals.{literal, isLiteral}
 use Rattle.sheet.specs.Order.{plains, negated}
@@ -16,14 +16,14 @@ use Rattle.words.proofs.Members.{all-out, mem-at}
 use Rattle.words.specs.Positions.{setOf}
 
 abbrev Inv-loop : tie.InvT-loop
-Inv-loop bytes c₀ i₀ c i = (i ≤ length bytes) × (c ≡ clauseOf (map literal (drop i bytes)))
+Inv-loop bytes c₀ i₀ c i = (i ≤ length bytes) × (c ≡ setsOf (map literal (drop i bytes)))
 
 abbrev μ-loop : tie.MeasureT-loop
 μ-loop bytes c₀ i₀ c i = i
 
 loop-holds : tie.Need-loop-holds Inv-loop μ-loop
 unfolding plains negated setOf
-loop-holds c = (omega arith, ap (λ (l : List ℕ). clauseOf (map literal l)) (sym (drop-length (c .before .args .bytes .now))))
+loop-holds c = (omega arith, ap (λ (l : List ℕ). setsOf (map literal l)) (sym (drop-length (c .before .args .bytes .now))))
 
 sub-i : tie.Need-sub-i Inv-loop μ-loop
 sub-i c = omega arith
@@ -46,12 +46,12 @@ loop-again c =
     let bytes = l .before .before .args .bytes .now in
     let at : l .loop .i - 1 + 1 ≡ l .loop .i = omega arith in
     let front = onward 0 bytes (l .loop .i - 1) (omega arith) ∙ ap (λ (k : ℕ). byte bytes (l .loop .i - 1) ∷ drop k bytes) at in
-    (omega arith, c .with-literal .ensures (map literal (drop (l .loop .i) bytes)) (l .loop .inv .1) ∙ ap (λ (x : List ℕ). clauseOf (map literal x)) (sym front))
+    (omega arith, c .with-literal .ensures (map literal (drop (l .loop .i) bytes)) (l .loop .inv .1) ∙ ap (λ (x : List ℕ). setsOf (map literal x)) (sym front))
 
 returns : tie.Need-returns Inv-loop μ-loop
 returns c =
     let e : c .before .loop .i ≡ 0 = omega arith in
-    c .before .loop .inv .1 ∙ ap (λ (k : ℕ). clauseOf (map literal (drop k (c .before .before .before .args .bytes .now)))) e
+    c .before .loop .inv .1 ∙ ap (λ (k : ℕ). setsOf (map literal (drop k (c .before .before .before .args .bytes .now)))) e
 
 pub clause-of-spec : {M : Type 1} → statement M
 clause-of-spec =

@@ -10,13 +10,13 @@ use Rattle.sheet.proofs.Table.{start-next}
 use Rattle.sheet.proofs.Understood.{passed}
 use Rattle.sheet.proofs.clauses.clauses_into.Statement.{statement}
 use Rattle.sheet.proofs.clauses.clauses_into.Tie as tie
-use Rattle.sheet.specs.Answers.{clauseOf}
+use Rattle.sheet.specs.Answers.{setsOf}
 use Rattle.sheet.specs.Layout.{clauseCount, literalCount, clauseStart, clauseBytes, part}
 use Rattle.sheet.specs.Literals.{literal, isLiteral}
 use Rattle.sheet.specs.Order.{plains as plainAtoms, negated as negatedAtoms}
 use Rattle.sheet.specs.Passed.{Placed}
 use Rattle.sheet.specs.Reading.{sheetOf}
-use Rattle.sheet.specs.declared.clauses.Clause.{Clause}
+use Rattle.sheet.specs.declared.clauses.Literals.{Literals}
 use Rattle.words.specs.Lists.{all}
 
 abbrev Inv-loop : tie.InvT-loop
@@ -142,15 +142,15 @@ loop-again : tie.Need-loop-again Inv-loop μ-loop
 loop-again c =
     let l = c .before .before .before .before .loop in
     let a = c .before .before .before .before .before .before .before .before .before .args in
-    let clause = c .clause-of .ensures ∙ ap (λ (bs : List ℕ). clauseOf (map literal bs)) (bytes-are (c .before .before)) in (
+    let clause = c .clause-of .ensures ∙ ap (λ (bs : List ℕ). setsOf (map literal bs)) (bytes-are (c .before .before)) in (
       omega (arith, c .before .before .before .loop-test .taken),
       c .before .before .word-at2 .ensures ∙ sym (start-next (a .s .now) (l .i)),
       length-set (l .plains) (l .i) (c .clause-of .result .plains) ∙ l .inv .2,
       length-set (l .negated) (l .i) (c .clause-of .result .negated) ∙ l .inv .3,
       ap (λ (xs : List ℕ). set xs (l .i) (c .clause-of .result .plains)) (l .inv .4)
-          ∙ next-set plainAtoms (a .s .now) (a .plains .now) (l .i) (c .clause-of .result .plains) (ap (λ (w : Clause). w .plains) clause) (room (c .before .before .before) .0),
+          ∙ next-set plainAtoms (a .s .now) (a .plains .now) (l .i) (c .clause-of .result .plains) (ap (λ (w : Literals). w .plains) clause) (room (c .before .before .before) .0),
       ap (λ (xs : List ℕ). set xs (l .i) (c .clause-of .result .negated)) (l .inv .5)
-          ∙ next-set negatedAtoms (a .s .now) (a .negated .now) (l .i) (c .clause-of .result .negated) (ap (λ (w : Clause). w .negated) clause) (room (c .before .before .before) .1),
+          ∙ next-set negatedAtoms (a .s .now) (a .negated .now) (l .i) (c .clause-of .result .negated) (ap (λ (w : Literals). w .negated) clause) (room (c .before .before .before) .1),
     )
 
 same-length : tie.Need-same-length Inv-loop μ-loop

@@ -10,7 +10,7 @@ use Rattle.sheet.proofs.ClauseLaws.{with-plain, with-negated}
 use Rattle.sheet.proofs.Numbers.{answered-neither, told-literal, told-range}
 use Rattle.sheet.proofs.clauses.with_literal.Statement.{statement}
 use Rattle.sheet.proofs.clauses.with_literal.Tie as tie
-use Rattle.sheet.specs.Answers.{clauseOf}
+use Rattle.sheet.specs.Answers.{setsOf}
 use Rattle.sheet.specs.Literals.{Lit, pos, neg, literal}
 
 in-atoms : (c : tie.After-plain) → (1 ≤ c .plain .given .0 .1 .0) × (c .plain .given .0 .1 .0 ≤ 64)
@@ -39,7 +39,7 @@ adding-requires c κs = let r = in-atoms (c .before .before) in omega arith
 returns : tie.Need-returns
 returns c =
     λ ls e. with-plain ls _ e (c .adding .ensures)
-    ∙ ap (λ (l : Lit). clauseOf (l ∷ ls)) (sym (as-literal (c .before .before .before) (c .before .if1 .taken)))
+    ∙ ap (λ (l : Lit). setsOf (l ∷ ls)) (sym (as-literal (c .before .before .before) (c .before .if1 .taken)))
 
 sub-adding-2 : tie.Need-sub-adding-2
 sub-adding-2 c = in-atoms (c .before .before) .0
@@ -53,7 +53,7 @@ enum-told c = search needs
 returns-2 : tie.Need-returns-2
 returns-2 c =
     λ ls e. with-negated ls _ e (c .adding2 .ensures)
-    ∙ ap (λ (l : Lit). clauseOf (l ∷ ls)) (sym (as-literal (c .before .before .before) (c .before .if1 .left)))
+    ∙ ap (λ (l : Lit). setsOf (l ∷ ls)) (sym (as-literal (c .before .before .before) (c .before .if1 .left)))
 
 returns-3 : tie.Need-returns-3
 returns-3 c = λ ls e. absurd (false≢true (answered-neither _ _ (c .before .before .literal-of .ensures) (c .enum-told .given .1) ∙ c .before .before .before .pre))

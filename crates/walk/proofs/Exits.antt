@@ -1,0 +1,84 @@
+-- The walk of a grown tree, as the code leaves it: one law for each way out. Assumes nothing.
+use Prim.Native.Nat.{ℕ, _+_, _≤_, _<_}
+use mathlib.Core.Bool.{Bool, true, false}
+use mathlib.Core.List.{List, [], _∷_, _++_, map}
+use mathlib.Core.Path.{_≡_, refl, sym, ap, _∙_}
+use lib.Dec.{ltb}
+use lib.ListN.{length, drop, drop-of-length-le}
+use borrow.Author.Tests.{lt-ltb, le-ltb}
+use Rattle.words.proofs.Lists.{onward}
+use Rattle.sheet.specs.Layout.{byte}
+use Rattle.sheet.specs.Literals.{Lit, literal}
+use Rattle.sheet.specs.Order.{plains}
+use Rattle.search.specs.Grown.{complement, isClosed, grow}
+use Rattle.search.specs.Search.{visit}
+use Rattle.search.specs.Tree.{Tree, closed, full, fork, Run, on, off, then, walk}
+
+-- ---- a visit
+
+module _ {A : Type 0} (cut : A) (allowance steps : ℕ) where
+  pub visit-due : steps < allowance → visit cut allowance steps ≡ on (steps + 1)
+  unfolding visit
+  visit-due h = rw (lt-ltb steps allowance h, visit)
+
+  pub visit-refused : allowance ≤ steps → visit cut allowance steps ≡ off steps cut
+  unfolding visit
+  visit-refused h = rw (le-ltb steps allowance h, visit)
+
+-- ---- the tree below a node
+
+module _ (cs : List (List Lit)) (w : List Lit) where
+  grow-closed : (ls : List Lit) → isClosed cs w ≡ true → grow cs ls w ≡ closed
+  unfolding grow
+  grow-closed [] e = rw (e, grow)
+  grow-closed (l ∷ ls) e = rw (e, grow)
+
+  grow-full : isClosed cs w ≡ false → grow cs [] w ≡ full (plains w)
+  unfolding grow
+  grow-full e = rw (e, grow)
+
+  grow-fork : (l : Lit) (ls : List Lit) → isClosed cs w ≡ false → grow cs (l ∷ ls) w ≡ fork (grow cs ls (w ++ (l ∷ []))) (grow cs ls (w ++ (complement l ∷ [])))
+  unfolding grow
+  grow-fork l ls e = rw (e, grow)
+
+-- ---- the ways out of a walk
+
+module _ {S A : Type 0} (visit : S → Run S A) (act : ℕ → S → Run S A) where
+  -- the visit is not made
+  pub out-refused : (t : Tree ℕ) {s s′ : S} {a : A} → visit s ≡ off s′ a → walk visit act t s ≡ off s′ a
+  out-refused closed e = e
+  out-refused (full m) e = ap (λ r. then r (act m)) e
+  out-refused (fork first second) e = ap (λ r. then (then r (walk visit act first)) (walk visit act second)) e
+
+  module _ (cs : List (List Lit)) (w : List Lit) {s v : S} (made : visit s ≡ on v) where
+    -- the node is closed
+    pub out-closed : (ls : List Lit) → isClosed cs w ≡ true → walk visit act (grow cs ls w) s ≡ on v
+    out-closed ls e = ap (λ (t : Tree ℕ). walk visit act t s) (grow-closed cs w ls e) ∙ made
+
+    -- it is full
+    pub out-full : isClosed cs w ≡ false → walk visit act (grow cs [] w) s ≡ act (plains w) v
+    out-full e = ap (λ (t : Tree ℕ). walk visit act t s) (grow-full cs w e) ∙ ap (λ r. then r (act (plains w))) made
+
+    module _ (l : Lit) (ls : List Lit) (ok : isClosed cs w ≡ false) {first : Run S A} (f : first ≡ walk visit act (grow cs ls (w ++ (l ∷ []))) v) where
+      both : walk visit act (grow cs (l ∷ ls) w) s ≡ then first (walk visit act (grow cs ls (w ++ (complement l ∷ []))))
+      both =
+          ap (λ (t : Tree ℕ). walk visit act t s) (grow-fork cs w l ls ok)
+          ∙ ap (λ r. then (then r (walk visit act (grow cs ls (w ++ (l ∷ []))))) (walk visit act (grow cs ls (w ++ (complement l ∷ []))))) made
+          ∙ ap (λ r. then r (walk visit act (grow cs ls (w ++ (complement l ∷ []))))) (sym f)
+
+      -- the walk ends below the first child
+      pub out-first : {u : S} {a : A} → first ≡ off u a → walk visit act (grow cs (l ∷ ls) w) s ≡ off u a
+      out-first e = both ∙ ap (λ r. then r (walk visit act (grow cs ls (w ++ (complement l ∷ []))))) e
+
+      -- it goes on below the second
+      pub out-second : {u : S} → first ≡ on u → walk visit act (grow cs (l ∷ ls) w) s ≡ walk visit act (grow cs ls (w ++ (complement l ∷ []))) u
+      out-second e = both ∙ ap (λ r. then r (walk visit act (grow cs ls (w ++ (complement l ∷ []))))) e
+
+-- ---- what is left of the order
+
+module _ (order : List ℕ) (depth : ℕ) where
+  pub order-next : depth < length order → map literal (drop depth order) ≡ literal (byte order depth) ∷ map literal (drop (depth + 1) order)
+  order-next h = ap (map literal) (onward 0 order depth h)
+
+  pub order-end : length order ≤ depth → map literal (drop depth order) ≡ []
+  order-end h = ap (map literal) (drop-of-length-le order h)

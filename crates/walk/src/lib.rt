@@ -1,0 +1,3 @@
+// The defined search, carried out: the candidate walk and its tests, on words.
+pub mod node;
+pub mod test;

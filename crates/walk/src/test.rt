@@ -1,0 +1,89 @@
+// The test of a candidate: a walk of its own from the root.
+ghost use mathlib.Core.Path.{_≡_};
+ghost use mathlib.Core.Bool.{true};
+ghost use mathlib.Core.List.{List, map};
+ghost use Prim.Native.Nat.{ℕ, _≤_};
+ghost use lib.ListN.{length, drop};
+ghost use Rattle.words.specs.Lists.{all};
+ghost use Rattle.sheet.specs.Literals.{Lit, literal, isLiteral};
+ghost use Rattle.sheet.specs.Answers.{setsOf};
+ghost use Rattle.search.specs.Grown.{complement as complementOf};
+ghost use Rattle.walk.specs.Carried.{Placed, Clauses, Readable, meetPart, testBelow, told};
+use crate::node::{closed, complement, part_of};
+use sheet::clauses::{with_literal, Literals};
+
+// How a test ended, with the steps so far: it found no full node, or one with this part, or the steps were spent.
+pub enum Tried {
+    Missed(u64),
+    Found(u64, u64),
+    Spent(u64),
+}
+
+// A full node of the test: it is found if its part strictly contains the candidate's.
+fn meet(objectives: &[u8], candidate: u64, model: u64, steps: u64) -> Tried
+    requires { ⌜ (all (isLiteral 64) (now objectives) ≡ true) × (length (now objectives) ≤ 64) ⌝ }
+    ensures { λ r. ⌜ told r ≡ meetPart (map literal (now (objectives .entry))) candidate model steps ⌝ }
+{
+    let found = part_of(objectives, model);
+    if words::strictly_within(candidate, found) {
+        return Tried::Found(steps, found);
+    }
+    Tried::Missed(steps)
+}
+
+// The test below a node: no literal of `ban` may be true.
+pub fn seek(
+    order: &[u8],
+    depth: usize,
+    objectives: &[u8],
+    plains: &[u64],
+    negated: &[u64],
+    ban: Literals,
+    candidate: u64,
+    allowance: u64,
+    node: Literals,
+    steps: u64,
+) -> Tried
+    requires { ⌜ Readable (now order) (now objectives) (now plains) (now negated) ⌝ }
+    ensures { λ r. ⌜ ((cs : List (List Lit)) (us w : List Lit) → Clauses cs (now (plains .entry)) (now (negated .entry)) → ban ≡ setsOf (map complementOf us) → Placed us → node ≡ setsOf w → Placed w → told r ≡ testBelow cs us (map literal (now (objectives .entry))) (map literal (drop depth (now (order .entry)))) w candidate allowance steps) ⌝ }
+{
+    if allowance <= steps {
+        return Tried::Spent(steps);
+    }
+    let visited = steps + 1;
+    if closed(plains, negated, ban, node) {
+        return Tried::Missed(visited);
+    }
+    if order.len() <= depth {
+        return meet(objectives, candidate, node.plains, visited);
+    }
+    let l = order[depth];
+    let first = seek(
+        order,
+        depth + 1,
+        objectives,
+        plains,
+        negated,
+        ban,
+        candidate,
+        allowance,
+        with_literal(node, l),
+        visited,
+    );
+    match first {
+        Tried::Missed(then) => seek(
+            order,
+            depth + 1,
+            objectives,
+            plains,
+            negated,
+            ban,
+            candidate,
+            allowance,
+            with_literal(node, complement(l)),
+            then,
+        ),
+        Tried::Found(_, _) => first,
+        Tried::Spent(_) => first,
+    }
+}
