@@ -9,7 +9,8 @@ use lib.ListN.{length, length-append}
 use Rattle.search.proofs.Actions.{visit-holds, meet-holds, candidate-holds, Settled, judge-holds, finished}
 use Rattle.search.proofs.Fair.{tops, Fair, Unbeaten, FirstUnbeaten, Says, Within}
 use Rattle.search.proofs.Past.{Past, past-none, past-map, past-all, past-one, past-next, above-past}
-use Rattle.search.proofs.Picking.{pick-in, pick-out, distinct-in, distinct-out, each-snoc, Among, among-none, among-snoc, among-length}
+use Rattle.search.proofs.Picking.{distinct-in, distinct-out, each-snoc, Among, among-none, among-snoc, among-length}
+use Rattle.words.proofs.Members.{pick-in, pick-out}
 use Rattle.search.proofs.Walking.{Holds, holds-map, walk-holds}
 use Rattle.search.specs.Search.{Game, State, Answer, Yes, No, Cut, NoPlace, Stop, spent, found, withTest, test, judge, search, start, answered, ended}
 use Rattle.search.specs.Tree.{leaves}

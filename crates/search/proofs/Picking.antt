@@ -1,4 +1,4 @@
--- What is picked from a list, a list without repetitions, and distinct entries of a list. Assumes nothing.
+-- A list without repetitions, and distinct entries of a list. Assumes nothing.
 use Prim.Native.Nat.{ℕ, _≤_}
 use mathlib.Core.Bool.{Bool, true, false, false≢true}
 use mathlib.Core.List.{List, [], _∷_, _++_, List·Memᴰ as Mem, List·Memᴰ·head as head, List·Memᴰ·tail as tail, List·Memᴰ·not-nil as not-nil, List·Memᴰ·cases-cons as cases-cons, Memᴰ·cast as cast, List·Memᴰ·append-cases as append-cases, List·Memᴰ·eq-of-singleton as eq-of-singleton}
@@ -10,27 +10,6 @@ use borrow.Author.Tests.{eqb-true}
 use Rattle.search.specs.Maximal.{distinct}
 use Rattle.words.proofs.Members.{any-out, distinct-snoc, distinct-fit}
 use Rattle.words.specs.Lists.{any, pick, Distinct}
-
--- ---- what is picked
-
-module _ {A : Type 0} (f : A → Bool) where
-  pub pick-in : (xs : List A) (x : A) → Mem x xs → f x ≡ true → Mem x (pick f xs)
-  pick-in [] x h t = h
-  pick-in (y ∷ xs) x h t = go (f y) refl (λ k. pick-in xs x k t)
-    where
-      go : (b : Bool) → f y ≡ b → (Mem x xs → Mem x (pick f xs)) → Mem x (pick f (y ∷ xs))
-      go true e later = rw (e, pick) (⊎-elim (λ i. head i) (λ k. tail (later k)) (cases-cons h))
-      go false e later = rw (e, pick) (⊎-elim (λ i. absurd (false≢true (sym e ∙ ap f (sym i) ∙ t))) later (cases-cons h))
-
-  pub pick-out : (xs : List A) (x : A) → Mem x (pick f xs) → Mem x xs × (f x ≡ true)
-  pick-out [] x h = absurd (not-nil h)
-  pick-out (y ∷ xs) x h = go (f y) refl (λ k. pick-out xs x k)
-    where
-      go : (b : Bool) → f y ≡ b → (Mem x (pick f xs) → Mem x xs × (f x ≡ true)) → Mem x (y ∷ xs) × (f x ≡ true)
-      go true e later =
-          let k : Mem x (y ∷ pick f xs) = rw (e, pick) at h in
-          ⊎-elim (λ i. (head i, ap f i ∙ e)) (λ k. let u = later k in (tail (u .0), u .1)) (cases-cons k)
-      go false e later = let u = later (rw (e, pick) at h) in (tail (u .0), u .1)
 
 -- ---- without repetitions
 

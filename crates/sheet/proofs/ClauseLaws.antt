@@ -1,7 +1,7 @@
 -- The clauses of an accepted sheet: where they stand, that their bytes are literals, and their two sets of atoms. Assumes nothing.
 use Prim.Native.Nat.{ℕ, zero, suc, _+_, _-_, _≤_, _<_}
 use mathlib.Core.Bool.{true, not}
-use mathlib.Core.List.{List, [], _∷_, _++_, map, map-append, List·Memᴰ as Mem}
+use mathlib.Core.List.{List, [], _∷_, _++_, map, map-append, List·Memᴰ as Mem, Memᴰ·cast as cast}
 use mathlib.Core.Path.{_≡_, refl, sym, ap, _∙_, subst}
 use native.Mathlib.Nat.{le-trans, le-of-eq}
 use native.Mathlib.Omega.{arith}
@@ -52,30 +52,28 @@ module _ (s : List ℕ) (ok : Accepted s) where
 getD-part : (from to : ℕ) (s : List ℕ) (i : ℕ) → i < to - from → getD (part from to s) i 0 ≡ getD s (from + i) 0
 getD-part from to s i h = getD-take (to - from) (drop from s) i 0 h ∙ getD-drop from s i 0
 
+-- what stands in a part of a part stands in the part
+part-within : (s : List ℕ) (from to start end b : ℕ) → from ≤ start → end ≤ to → to ≤ length s → Mem b (part start end s) → Mem b (part from to s)
+part-within s from to start end b l h fits m =
+    let u = at-mem 0 (part start end s) b m in
+    let lt : u .0 < end - start = subst (λ (k : ℕ). u .0 < k) (length-part start end s (omega arith)) (u .1) in
+    let i = start - from + u .0 in
+    let e : from + i ≡ start + u .0 = omega arith in
+    cast (sym (u .2) ∙ getD-part start end s (u .0) lt ∙ ap (λ (k : ℕ). getD s k 0) (sym e) ∙ sym (getD-part from to s i (omega arith)))
+    (mem-at 0 (part from to s) i (subst (λ (k : ℕ). i < k) (sym (length-part from to s fits)) (omega arith)))
+
 module _ (s : List ℕ) (ok : Accepted s) where
-  literal-byte : (i : ℕ) → i < literalCount s → isLiteral 64 (getD s (literalsAt s + i) 0) ≡ true
+  pub clause-byte : (i : ℕ) → i < clauseCount s → (b : ℕ) → Mem b (clauseBytes s i) → isLiteral (atomCount s) b ≡ true
   unfolding badLiteral
-  literal-byte i h =
+  clause-byte i h b m =
       let p = passed s ok in
-      let lt : i < objectivesAt s - literalsAt s = omega arith in
-      let len = length-part (literalsAt s) (objectivesAt s) s (omega (arith, p .sized .whole)) in
-      more-atoms (atomCount s) _ (p .sized .counted .atoms)
-      (ap (isLiteral (atomCount s)) (sym (getD-part (literalsAt s) (objectivesAt s) s i lt))
-      ∙ not-false _ (any-none (noLiteral (atomCount s)) (literalBytes s) (p .allLiterals) _ (mem-at 0 (literalBytes s) i (omega (arith, len)))))
+      let ends = clause-ends-within s ok i h in
+      not-false (isLiteral (atomCount s) b)
+      (any-none (noLiteral (atomCount s)) (literalBytes s) (p .allLiterals) b
+      (part-within s (literalsAt s) (objectivesAt s) (literalsAt s + clauseStart s i) (literalsAt s + clauseEnd s i) b (omega arith) (omega arith) (omega (arith, p .sized .whole)) m))
 
   pub clause-literals : (i : ℕ) → i < clauseCount s → all (isLiteral 64) (clauseBytes s i) ≡ true
-  clause-literals i h = all-in (isLiteral 64) (clauseBytes s i) each
-    where
-      each : (b : ℕ) → Mem b (clauseBytes s i) → isLiteral 64 b ≡ true
-      each b m =
-          let u = at-mem 0 (clauseBytes s i) b m in
-          let fits = clause-ends-within s ok i h in
-          let whole = passed s ok .sized .whole in
-          let len = length-part (literalsAt s + clauseStart s i) (literalsAt s + clauseEnd s i) s (omega (arith, whole)) in
-          let lt : u .0 < literalsAt s + clauseEnd s i - (literalsAt s + clauseStart s i) = omega (arith, len, u .1) in
-          let at : literalsAt s + clauseStart s i + u .0 ≡ literalsAt s + (clauseStart s i + u .0) = omega arith in
-          ap (isLiteral 64) (sym (u .2) ∙ getD-part (literalsAt s + clauseStart s i) (literalsAt s + clauseEnd s i) s (u .0) lt ∙ ap (λ (k : ℕ). getD s k 0) at)
-          ∙ literal-byte (clauseStart s i + u .0) (omega arith)
+  clause-literals i h = all-in (isLiteral 64) (clauseBytes s i) (λ b m. more-atoms (atomCount s) b (passed s ok .sized .counted .atoms) (clause-byte i h b m))
 
 -- ---- one literal more in a clause's two sets
 

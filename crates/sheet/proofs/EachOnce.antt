@@ -22,7 +22,7 @@ use Rattle.words.specs.Lists.{any, all, below, Distinct}
 
 -- ---- no atom is named twice, and only atoms of the literals taken
 
-abbrev InRange : ℕ → Lit → Type 0
+abbrev pub InRange : ℕ → Lit → Type 0
 InRange n l = (1 ≤ atom l) × (atom l ≤ n)
 
 -- an order that names each atom at most once, and only atoms from 1 to n
@@ -80,7 +80,7 @@ suc-apart (i ∷ is) d =
 
 module _ (s : List ℕ) (ok : Accepted s) where
   -- the objectives are literals of n atoms
-  objective-literal : (b : ℕ) → Mem b (objectiveBytes s) → isLiteral (atomCount s) b ≡ true
+  pub objective-literal : (b : ℕ) → Mem b (objectiveBytes s) → isLiteral (atomCount s) b ≡ true
   unfolding badObjective
   objective-literal b m =
       let os = objectiveBytes s in

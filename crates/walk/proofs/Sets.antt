@@ -13,7 +13,7 @@ use Rattle.words.specs.Lists.{any, all, pick}
 use Rattle.words.specs.Positions.{has, within, adding, setOf}
 use Rattle.words.proofs.Bools.{same-test, and-split, or-cases, or-true, or-false, and-false}
 use Rattle.words.proofs.Lists.{any-next, any-end}
-use Rattle.words.proofs.Members.{any-append, pick-append, mem-at}
+use Rattle.words.proofs.Members.{any-append, any-cons, all-cons, pick-append, pick-yes, pick-no, mem-at}
 use Rattle.words.proofs.Bits.{has-and, has-none, has-adding, has-setOf, same-positions}
 use Rattle.words.proofs.Containment.{within-says, within-holds}
 use Rattle.sheet.specs.Literals.{Lit, pos, neg, atom, plain}
@@ -22,21 +22,6 @@ use Rattle.sheet.specs.Answers.{setsOf}
 use Rattle.sheet.specs.declared.clauses.Literals.{Literals}
 use Rattle.search.specs.Grown.{complement, sameLit, falseAt, unit, isClosed}
 use Rattle.walk.specs.Carried.{Placed, Clauses}
-
--- ---- the first entry and the rest
-
-any-cons : {A : Type 0} (f : A → Bool) (x : A) (xs : List A) → any f (x ∷ xs) ≡ (f x || any f xs)
-any-cons f x xs = go (f x) refl
-  where
-    go : (b : Bool) → f x ≡ b → any f (x ∷ xs) ≡ (f x || any f xs)
-    go true e = rw (e, any)
-    go false e = rw (e, any)
-
-pick-yes : {A : Type 0} (f : A → Bool) (x : A) (xs : List A) → f x ≡ true → pick f (x ∷ xs) ≡ x ∷ pick f xs
-pick-yes f x xs e = rw (e, pick)
-
-pick-no : {A : Type 0} (f : A → Bool) (x : A) (xs : List A) → f x ≡ false → pick f (x ∷ xs) ≡ pick f xs
-pick-no f x xs e = rw (e, pick)
 
 -- ---- which literals a set has
 
@@ -111,14 +96,6 @@ or-swap false a b = refl
 or-first : (h a b : Bool) → (h || (not a || b)) ≡ (not (not h && a) || b)
 or-first true a b = refl
 or-first false a b = refl
-
--- one test and the rest
-all-cons : (f : Lit → Bool) (l : Lit) (c : List Lit) → all f (l ∷ c) ≡ (f l && all f c)
-all-cons f l c = go (f l) refl
-  where
-    go : (b : Bool) → f l ≡ b → all f (l ∷ c) ≡ (f l && all f c)
-    go true e = rw (e, all)
-    go false e = rw (e, all)
 
 module _ (w : List Lit) (is : Placed w) where
   pub clause-false : (c : List Lit) → Placed c → (within (plains c) (negated w) && within (negated c) (plains w)) ≡ all (falseAt w) c

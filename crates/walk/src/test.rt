@@ -8,7 +8,7 @@ ghost use Rattle.words.specs.Lists.{all};
 ghost use Rattle.sheet.specs.Literals.{Lit, literal, isLiteral};
 ghost use Rattle.sheet.specs.Answers.{setsOf};
 ghost use Rattle.search.specs.Grown.{complement as complementOf};
-ghost use Rattle.walk.specs.Carried.{Placed, Clauses, Readable, meetPart, testBelow, told};
+ghost use Rattle.walk.specs.Carried.{Placed, Clauses, Readable, meetPart, testBelow, told, stepsOf};
 use crate::node::{closed, complement, part_of};
 use sheet::clauses::{with_literal, Literals};
 
@@ -22,7 +22,7 @@ pub enum Tried {
 // A full node of the test: it is found if its part strictly contains the candidate's.
 fn meet(objectives: &[u8], candidate: u64, model: u64, steps: u64) -> Tried
     requires { ⌜ (all (isLiteral 64) (now objectives) ≡ true) × (length (now objectives) ≤ 64) ⌝ }
-    ensures { λ r. ⌜ told r ≡ meetPart (map literal (now (objectives .entry))) candidate model steps ⌝ }
+    ensures { λ r. ⌜ (told r ≡ meetPart (map literal (now (objectives .entry))) candidate model steps) × (stepsOf r ≡ steps) ⌝ }
 {
     let found = part_of(objectives, model);
     if words::strictly_within(candidate, found) {
@@ -46,6 +46,7 @@ pub fn seek(
 ) -> Tried
     requires { ⌜ Readable (now order) (now objectives) (now plains) (now negated) ⌝ }
     ensures { λ r. ⌜ ((cs : List (List Lit)) (us w : List Lit) → Clauses cs (now (plains .entry)) (now (negated .entry)) → ban ≡ setsOf (map complementOf us) → Placed us → node ≡ setsOf w → Placed w → told r ≡ testBelow cs us (map literal (now (objectives .entry))) (map literal (drop depth (now (order .entry)))) w candidate allowance steps) ⌝ }
+    ensures { λ r. ⌜ steps ≤ stepsOf r ⌝ }
 {
     if allowance <= steps {
         return Tried::Spent(steps);

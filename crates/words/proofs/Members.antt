@@ -1,6 +1,6 @@
 -- Tests over lists by the members of the list, and lists in which no entry stands twice. Assumes nothing.
 use Prim.Native.Nat.{ℕ, zero, suc, _≤_, _<_}
-use mathlib.Core.Bool.{Bool, true, false, _||_, false≢true}
+use mathlib.Core.Bool.{Bool, true, false, _&&_, _||_, false≢true}
 use mathlib.Core.List.{List, [], _∷_, _++_, List·Memᴰ as Mem, List·Memᴰ·head as head, List·Memᴰ·tail as tail, List·Memᴰ·not-nil as not-nil, List·Memᴰ·cases-cons as cases-cons, Memᴰ·cast as cast, List·Memᴰ·append-cases as append-cases, List·Memᴰ·eq-of-singleton as eq-of-singleton, Memᴰ·append-left as append-left, Memᴰ·append-right as append-right}
 use mathlib.Core.Logic.{⊎-elim}
 use mathlib.Core.Path.{_≡_, refl, sym, ap, _∙_}
@@ -62,6 +62,42 @@ module _ {A : Type 0} (f : A → Bool) where
       go : (b : Bool) → f x ≡ b → pick f (xs ++ ys) ≡ pick f xs ++ pick f ys → pick f (x ∷ (xs ++ ys)) ≡ pick f (x ∷ xs) ++ pick f ys
       go true e later = rw (e, pick) (ap (λ (l : List A). x ∷ l) later)
       go false e later = rw (e, pick) later
+
+  pub any-cons : (x : A) (xs : List A) → any f (x ∷ xs) ≡ (f x || any f xs)
+  any-cons x xs = go (f x) refl
+    where
+      go : (b : Bool) → f x ≡ b → any f (x ∷ xs) ≡ (f x || any f xs)
+      go true e = rw (e, any)
+      go false e = rw (e, any)
+
+  pub all-cons : (x : A) (xs : List A) → all f (x ∷ xs) ≡ (f x && all f xs)
+  all-cons x xs = go (f x) refl
+    where
+      go : (b : Bool) → f x ≡ b → all f (x ∷ xs) ≡ (f x && all f xs)
+      go true e = rw (e, all)
+      go false e = rw (e, all)
+
+  pub pick-yes : (x : A) (xs : List A) → f x ≡ true → pick f (x ∷ xs) ≡ x ∷ pick f xs
+  pick-yes x xs e = rw (e, pick)
+
+  pub pick-no : (x : A) (xs : List A) → f x ≡ false → pick f (x ∷ xs) ≡ pick f xs
+  pick-no x xs e = rw (e, pick)
+
+  pub pick-in : (xs : List A) (x : A) → Mem x xs → f x ≡ true → Mem x (pick f xs)
+  pick-in [] x h t = absurd (not-nil h)
+  pick-in (y ∷ xs) x h t = go (f y) refl (λ k. pick-in xs x k t)
+    where
+      go : (b : Bool) → f y ≡ b → (Mem x xs → Mem x (pick f xs)) → Mem x (pick f (y ∷ xs))
+      go true e later = rw (e, pick) (⊎-elim (λ e′. head e′) (λ k. tail (later k)) (cases-cons h))
+      go false e later = rw (e, pick) (⊎-elim (λ e′. absurd (false≢true (sym e ∙ ap f (sym e′) ∙ t))) later (cases-cons h))
+
+  pub pick-out : (xs : List A) (x : A) → Mem x (pick f xs) → Mem x xs × (f x ≡ true)
+  pick-out [] x h = absurd (not-nil h)
+  pick-out (y ∷ xs) x h = go (f y) refl (λ k. pick-out xs x k)
+    where
+      go : (b : Bool) → f y ≡ b → (Mem x (pick f xs) → Mem x xs × (f x ≡ true)) → Mem x (y ∷ xs) × (f x ≡ true)
+      go true e later = ⊎-elim (λ e′. (head e′, ap f e′ ∙ e)) (λ k. let u = later k in (tail (u .0), u .1)) (cases-cons (rw (e, pick) at h))
+      go false e later = let u = later (rw (e, pick) at h) in (tail (u .0), u .1)
 
 -- ---- members and places
 

@@ -13,7 +13,7 @@ use Rattle.sheet.specs.declared.clauses.Literals.{Literals}
 use Rattle.search.specs.Grown.{complement, unit, isClosed, grow}
 use Rattle.search.specs.Search.{Stop, spent, visit}
 use Rattle.search.specs.Tree.{Run, on, off}
-use Rattle.walk.specs.Carried.{Placed, Clauses, meetPart, testBelow, told}
+use Rattle.walk.specs.Carried.{Placed, Clauses, meetPart, testBelow, told, stepsOf}
 use Rattle.walk.proofs.Bytes.{in-atoms, complement-placed}
 use Rattle.walk.proofs.Sets.{sets-snoc, placed-snoc}
 use Rattle.walk.proofs.Exits.{visit-due, visit-refused, out-refused, out-closed, out-full, out-first, out-second, order-next, order-end}
@@ -70,7 +70,7 @@ module _ (t : ℕ) (c : seek-lts.After-seek (calls t) (seek-at t) seek.Post) (cs
 
     first-walked : told (c .seek .result) ≡ below branched (entry .args .steps + 1)
     first-walked =
-        c .seek .ensures cs us (w ++ (branched ∷ [])) are eb pu (c .before .with-literal .ensures w en ∙ sets-snoc w branched) (placed-snoc w branched pw (in-atoms _ is-literal))
+        c .seek .ensures .0 cs us (w ++ (branched ∷ [])) are eb pu (c .before .with-literal .ensures w en ∙ sets-snoc w branched) (placed-snoc w branched pw (in-atoms _ is-literal))
 
     is-open : isClosed (map unit us ++ cs) w ≡ false
     is-open = sym (c .before .before .before .before .before .closed .ensures cs us w are eb pu en pw) ∙ c .before .before .before .before .if2 .left
@@ -87,7 +87,7 @@ module _ (t : ℕ) (c : seek-lts.After-seek (calls t) (seek-at t) seek.Post) (cs
 
 -- src/test.rt:51:9
 seek-returns : (t : ℕ) → seek-lts.Need-returns (calls t) (seek-at t) seek.Post
-seek-returns t c = λ cs us w are eb pu en pw. sym (out-refused (visit spent _) (meetPart _ _) (grow (map unit us ++ cs) _ w) (visit-refused spent _ _ (c .if1 .taken)))
+seek-returns t c = (λ cs us w are eb pu en pw. sym (out-refused (visit spent _) (meetPart _ _) (grow (map unit us ++ cs) _ w) (visit-refused spent _ _ (c .if1 .taken))), omega arith)
 
 -- src/test.rt:53:19
 seek-add-visited : (t : ℕ) → seek-lts.Need-add-visited (calls t) (seek-at t) seek.Post
@@ -101,7 +101,10 @@ seek-closed-requires t c κs = c .before .before .before .before .before .pre .1
 seek-returns-2 : (t : ℕ) → seek-lts.Need-returns-2 (calls t) (seek-at t) seek.Post
 seek-returns-2 t c =
     let u = c .before in
-    λ cs us w are eb pu en pw. sym (out-closed (visit spent _) (meetPart _ _) (map unit us ++ cs) w (visit-due spent _ _ (u .before .if1 .left)) _ (sym (u .closed .ensures cs us w are eb pu en pw) ∙ c .if2 .taken))
+    (
+      λ cs us w are eb pu en pw. sym (out-closed (visit spent _) (meetPart _ _) (map unit us ++ cs) w (visit-due spent _ _ (u .before .if1 .left)) _ (sym (u .closed .ensures cs us w are eb pu en pw) ∙ c .if2 .taken)),
+      omega arith,
+    )
 
 -- src/test.rt:58:9
 seek-meet-requires : (t : ℕ) → seek-lts.Need-meet-requires (calls t) (seek-at t) seek.Post
@@ -112,9 +115,12 @@ seek-returns-3 : (t : ℕ) → seek-lts.Need-returns-3 (calls t) (seek-at t) see
 seek-returns-3 t c =
     let v = c .before .before .before in
     let s = v .before .before .before .before .before .before in
-    λ cs us w are eb pu en pw. c .meet .ensures ∙ ap (λ (x : Literals). meetPart (map literal (s .args .objectives .now)) (s .args .candidate) (x .plains) (s .args .steps + 1)) en
+    (
+      λ cs us w are eb pu en pw. c .meet .ensures .0 ∙ ap (λ (x : Literals). meetPart (map literal (s .args .objectives .now)) (s .args .candidate) (x .plains) (s .args .steps + 1)) en
     ∙ sym (ap (λ (ls : List Lit). testBelow cs us (map literal (s .args .objectives .now)) ls w (s .args .candidate) (s .args .allowance) (s .args .steps)) (order-end (s .args .order .now) (s .args .depth) (c .before .if3 .taken))
-    ∙ out-full (visit spent _) (meetPart _ _) (map unit us ++ cs) w (visit-due spent _ _ (v .before .if1 .left)) (sym (v .closed .ensures cs us w are eb pu en pw) ∙ c .before .before .if2 .left))
+    ∙ out-full (visit spent _) (meetPart _ _) (map unit us ++ cs) w (visit-due spent _ _ (v .before .if1 .left)) (sym (v .closed .ensures cs us w are eb pu en pw) ∙ c .before .before .if2 .left)),
+      omega (arith, c .meet .ensures .1),
+    )
 
 -- src/test.rt:60:13
 seek-shared-slice-read-l : (t : ℕ) → seek-lts.Need-shared-slice-read-l (calls t) (seek-at t) seek.Post
@@ -164,19 +170,22 @@ seek-enum-told-2 t c = search needs
 seek-returns-4 : (t : ℕ) → seek-lts.Need-returns-4 (calls t) (seek-at t) seek.Post
 seek-returns-4 t c =
     let u = c .before .before .before .before .before .before in
-    λ cs us w are eb pu en pw. let l = branched t u cs us w in
-    c .seek2 .ensures cs us (w ++ (complement l ∷ [])) are eb pu
+    (
+      λ cs us w are eb pu en pw. let l = branched t u cs us w in
+    c .seek2 .ensures .0 cs us (w ++ (complement l ∷ [])) are eb pu
     (c .before .with-literal2 .ensures w en ∙ ap (λ (x : Lit). setsOf (x ∷ w)) (c .before .before .complement .ensures .1) ∙ sets-snoc w (complement l))
     (placed-snoc w (complement l) pw (complement-placed l (in-atoms _ (is-literal t u cs us w are eb pu en pw))))
-    ∙ sym (goes-on t u cs us w are eb pu en pw (ap told (c .before .before .before .before .first .given .1)))
+    ∙ sym (goes-on t u cs us w are eb pu en pw (ap told (c .before .before .before .before .first .given .1))),
+      omega (arith, u .seek .ensures .1, ap stepsOf (c .before .before .before .before .first .given .1), c .seek2 .ensures .1),
+    )
 
 -- src/test.rt:35:1
 seek-returns-5 : (t : ℕ) → seek-lts.Need-returns-5 (calls t) (seek-at t) seek.Post
-seek-returns-5 t c = λ cs us w are eb pu en pw. ended t (c .before .before) cs us w are eb pu en pw (ap told (c .enum-told .given .1))
+seek-returns-5 t c = (λ cs us w are eb pu en pw. ended t (c .before .before) cs us w are eb pu en pw (ap told (c .enum-told .given .1)), omega (arith, c .before .before .seek .ensures .1))
 
 -- src/test.rt:35:1
 seek-returns-6 : (t : ℕ) → seek-lts.Need-returns-6 (calls t) (seek-at t) seek.Post
-seek-returns-6 t c = λ cs us w are eb pu en pw. ended t (c .before .before) cs us w are eb pu en pw (ap told (c .enum-told2 .given .1))
+seek-returns-6 t c = (λ cs us w are eb pu en pw. ended t (c .before .before) cs us w are eb pu en pw (ap told (c .enum-told2 .given .1)), omega (arith, c .before .before .seek .ensures .1))
 
 pub +seek-spec : {M : Type 1} → statement M
 +seek-spec = close μ-seek λ t. seek-lts.spec (calls t)

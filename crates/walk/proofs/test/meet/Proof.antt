@@ -1,4 +1,4 @@
-use mathlib.Core.Path.{sym, _∙_}
+use mathlib.Core.Path.{refl, sym, _∙_}
 use Rattle.walk.proofs.Parts.{meet-hit, meet-miss}
 use borrow.Author.Needs.{needs}
 use Rattle.walk.proofs.test.meet.Statement.{statement}
@@ -19,12 +19,12 @@ strictly-within-requires c κs = search needs
 -- src/test.rt:29:9
 returns : tie.Need-returns
 returns c =
-    sym (meet-hit _ _ _ _ (c .before .before .part-of .ensures) (sym (c .before .strictly-within .ensures) ∙ c .if1 .taken))
+    (sym (meet-hit _ _ _ _ (c .before .before .part-of .ensures) (sym (c .before .strictly-within .ensures) ∙ c .if1 .taken)), refl)
 
 -- src/test.rt:23:1
 returns-2 : tie.Need-returns-2
 returns-2 c =
-    sym (meet-miss _ _ _ _ (c .before .before .part-of .ensures) (sym (c .before .strictly-within .ensures) ∙ c .if1 .left))
+    (sym (meet-miss _ _ _ _ (c .before .before .part-of .ensures) (sym (c .before .strictly-within .ensures) ∙ c .if1 .left)), refl)
 
 pub meet-spec : {M : Type 1} → statement M
 meet-spec = tie.close (tie.spec part-of-requires strictly-within-requires returns returns-2)

@@ -1,0 +1,145 @@
+-- The full nodes of a grown tree stand in reading order. Assumes nothing.
+use Prim.Native.Nat.{ℕ}
+use mathlib.Core.Bool.{Bool, true, false}
+use mathlib.Core.List.{List, [], _∷_, _++_, map, map-append, append-nil, append-assoc, List·Memᴰ as Mem, List·Memᴰ·head as head, List·Memᴰ·not-nil as not-nil, Memᴰ·cast as cast, Memᴰ·map as mem-map, Memᴰ·append-right as append-right}
+use mathlib.Core.Logic.{⊎-elim}
+use mathlib.Core.Path.{_≡_, refl, sym, ap, ap₂, _∙_, subst}
+use lib.Dec.{eqb}
+use borrow.Author.Tests.{eqb-true}
+use Rattle.words.proofs.Members.{any-out}
+use Rattle.words.specs.Lists.{any}
+use Rattle.sheet.proofs.BranchLaws.{taking-old, taking-new}
+use Rattle.sheet.proofs.EachOnce.{NamesEachOnce}
+use Rattle.sheet.specs.Literals.{Lit, atom}
+use Rattle.sheet.specs.Order.{names, takingAll, ascending, branch}
+use Rattle.sheet.specs.Reading.{Sheet}
+use Rattle.search.proofs.Entries.{Sorted, sorted-append, sorted-by}
+use Rattle.search.proofs.Leaves.{atomsOf, atoms-child, leaves-closed, leaves-full, leaves-fork, leaf-agrees, spread}
+use Rattle.search.proofs.Nodes.{complement-atom, complement-true, Agrees, decided, Spread}
+use Rattle.search.specs.Grown.{complement, Node, isClosed, grow}
+use Rattle.search.specs.Models.{holds, firstTrue, earlier}
+use Rattle.search.specs.Tree.{leaves}
+
+-- ---- the branch order from its front
+
+-- The branch order is the reading order without the literals whose atom was read before. So the tree can be followed along the reading order:
+-- a literal that is left out has one truth at all full nodes below, and one that is kept has two, the first child's and the second's.
+
+-- the atom is one of these
+abbrev among : List ℕ → ℕ → Bool
+among atoms a = any (λ b. eqb b a) atoms
+
+-- the literals whose atom is none of these, nor that of a literal before
+abbrev fresh : List ℕ → List Lit → List Lit
+fresh atoms [] = []
+fresh atoms (l ∷ ls) = elim (among atoms (atom l)) [ true ↦ fresh atoms ls | false ↦ l ∷ fresh (atoms ++ (atom l ∷ [])) ls ]
+
+module _ (atoms : List ℕ) (l : Lit) (ls : List Lit) where
+  fresh-old : among atoms (atom l) ≡ true → fresh atoms (l ∷ ls) ≡ fresh atoms ls
+  fresh-old e = rw (e, fresh)
+
+  fresh-new : among atoms (atom l) ≡ false → fresh atoms (l ∷ ls) ≡ l ∷ fresh (atoms ++ (atom l ∷ [])) ls
+  fresh-new e = rw (e, fresh)
+
+among-names : (a : ℕ) (so : List Lit) → any (names a) so ≡ among (map atom so) a
+among-names a [] = refl
+among-names a (l ∷ so) = ap (λ (r : Bool). elim (names a l) as (λ _. Bool) [ true ↦ true | false ↦ r ]) (among-names a so)
+
+taken-fresh : (so ls : List Lit) → takingAll so ls ≡ so ++ fresh (map atom so) ls
+taken-fresh so [] = sym (append-nil so)
+taken-fresh so (l ∷ ls) = go (any (names (atom l)) so) refl (taken-fresh so ls) (taken-fresh (so ++ (l ∷ [])) ls)
+  where
+    go : (b : Bool) → any (names (atom l)) so ≡ b → takingAll so ls ≡ so ++ fresh (map atom so) ls
+        → takingAll (so ++ (l ∷ [])) ls ≡ (so ++ (l ∷ [])) ++ fresh (map atom (so ++ (l ∷ []))) ls → takingAll so (l ∷ ls) ≡ so ++ fresh (map atom so) (l ∷ ls)
+    go true e old new =
+        ap (λ (x : List Lit). takingAll x ls) (taking-old so l e) ∙ old
+        ∙ ap (λ (x : List Lit). so ++ x) (sym (fresh-old (map atom so) l ls (sym (among-names (atom l) so) ∙ e)))
+    go false e old new =
+        ap (λ (x : List Lit). takingAll x ls) (taking-new so l e) ∙ new ∙ append-assoc so (l ∷ []) (fresh (map atom (so ++ (l ∷ []))) ls)
+        ∙ ap (λ (x : List ℕ). so ++ (l ∷ fresh x ls)) (map-append atom so (l ∷ []))
+        ∙ ap (λ (x : List Lit). so ++ x) (sym (fresh-new (map atom so) l ls (sym (among-names (atom l) so) ∙ e)))
+
+-- ---- the full nodes below a node
+
+-- m comes before u, as far as these literals go
+abbrev before : List Lit → ℕ → ℕ → Bool
+before ls m u = firstTrue (map (holds m) ls) (map (holds u) ls)
+
+before-same : (l : Lit) (ls : List Lit) (m u : ℕ) → holds m l ≡ holds u l → before (l ∷ ls) m u ≡ before ls m u
+before-same l ls m u e = ap (λ (b : Bool). firstTrue (b ∷ map (holds m) ls) (holds u l ∷ map (holds u) ls)) e ∙ go (holds u l)
+  where
+    go : (b : Bool) → firstTrue (b ∷ map (holds m) ls) (b ∷ map (holds u) ls) ≡ before ls m u
+    go true = refl
+    go false = refl
+
+before-here : (l : Lit) (ls : List Lit) (m u : ℕ) → holds m l ≡ true → holds u l ≡ false → before (l ∷ ls) m u ≡ true
+before-here l ls m u e f = ap₂ (λ (a b : Bool). firstTrue (a ∷ map (holds m) ls) (b ∷ map (holds u) ls)) e f
+
+module _ (n : ℕ) (cs : List (List Lit)) where
+  -- the full nodes below w, where the literals of the order are still to be tried, are in order as far as the literals ls go
+  abbrev InOrder : List Lit → List Lit → Node → Type 0
+  InOrder ls order w = Spread n (atomsOf w order) → Sorted (before ls) (leaves (grow cs order w))
+
+  -- a literal whose atom the node decides makes no difference below it
+  same-below : (l : Lit) (ls order : List Lit) (w : Node) → Mem (atom l) (map atom w) → InOrder ls order w → InOrder (l ∷ ls) order w
+  same-below l ls order w h sorted apart =
+      sorted-by (before ls) (before (l ∷ ls)) (leaves (grow cs order w))
+      (λ m u i j s. before-same l ls m u (same m u (leaf-agrees cs n order w apart m i) (leaf-agrees cs n order w apart u j)) ∙ s) (sorted apart)
+    where
+      same : (m u : ℕ) → Agrees w m → Agrees w u → holds m l ≡ holds u l
+      same m u a b =
+          ⊎-elim (λ k. a l k ∙ sym (b l k)) (λ k. complement-true m l (a (complement l) k) ∙ sym (complement-true u l (b (complement l) k)))
+          (decided w l h)
+
+  -- what stands below the first child comes before what stands below the second
+  fork-in-order : (l : Lit) (ls order : List Lit) (w : Node) → ((y : Lit) → atom y ≡ atom l → InOrder ls order (w ++ (y ∷ []))) → InOrder (l ∷ ls) (l ∷ order) w
+  fork-in-order l ls order w below apart = go (isClosed cs w) refl
+    where
+      apart-at : (y : Lit) → atom y ≡ atom l → Spread n (atomsOf (w ++ (y ∷ [])) order)
+      apart-at y e = subst (Spread n) (sym (atoms-child w l y order e)) apart
+
+      true-at : (y : Lit) → atom y ≡ atom l → (m : ℕ) → Mem m (leaves (grow cs order (w ++ (y ∷ [])))) → holds m y ≡ true
+      true-at y e m h = leaf-agrees cs n order (w ++ (y ∷ [])) (apart-at y e) m h y (append-right w (head refl))
+
+      child : (y : Lit) → atom y ≡ atom l → Sorted (before (l ∷ ls)) (leaves (grow cs order (w ++ (y ∷ []))))
+      child y e = same-below l ls order (w ++ (y ∷ [])) (cast (sym e) (mem-map atom (append-right w (head refl)))) (below y e) (apart-at y e)
+
+      go : (b : Bool) → isClosed cs w ≡ b → Sorted (before (l ∷ ls)) (leaves (grow cs (l ∷ order) w))
+      go true f = subst (Sorted (before (l ∷ ls))) (sym (leaves-closed cs (l ∷ order) w f)) tt
+      go false f =
+          subst (Sorted (before (l ∷ ls))) (sym (leaves-fork cs l order w f))
+          (sorted-append (before (l ∷ ls)) (leaves (grow cs order (w ++ (l ∷ [])))) (leaves (grow cs order (w ++ (complement l ∷ []))))
+          (child l refl) (child (complement l) (complement-atom l))
+          (λ m u i j. before-here l ls m u (true-at l refl m i) (complement-true u l (true-at (complement l) (complement-atom l) u j))))
+
+  grown-in-order : (ls : List Lit) (atoms : List ℕ) (w : Node) → map atom w ≡ atoms → InOrder ls (fresh atoms ls) w
+  grown-in-order [] atoms w e apart = go (isClosed cs w) refl
+    where
+      go : (b : Bool) → isClosed cs w ≡ b → Sorted (before []) (leaves (grow cs [] w))
+      go true f = subst (Sorted (before [])) (sym (leaves-closed cs [] w f)) tt
+      go false f = subst (Sorted (before [])) (sym (leaves-full cs w f)) (λ y h. absurd (not-nil h), tt)
+  grown-in-order (l ∷ ls) atoms w e apart =
+      go (among atoms (atom l)) refl (grown-in-order ls atoms w e) (λ y f. grown-in-order ls (atoms ++ (atom l ∷ [])) (w ++ (y ∷ [])) (child-atoms y f)) apart
+    where
+      child-atoms : (y : Lit) → atom y ≡ atom l → map atom (w ++ (y ∷ [])) ≡ atoms ++ (atom l ∷ [])
+      child-atoms y f = map-append atom w (y ∷ []) ∙ ap₂ (λ (xs : List ℕ) (a : ℕ). xs ++ (a ∷ [])) e f
+
+      old-named : among atoms (atom l) ≡ true → Mem (atom l) (map atom w)
+      old-named t = let u = any-out (λ b. eqb b (atom l)) atoms t in subst (Mem (atom l)) (sym e) (cast (sym (eqb-true (u .0) (atom l) (u .2))) (u .1))
+
+      go : (b : Bool) → among atoms (atom l) ≡ b → InOrder ls (fresh atoms ls) w
+          → ((y : Lit) → atom y ≡ atom l → InOrder ls (fresh (atoms ++ (atom l ∷ [])) ls) (w ++ (y ∷ []))) → InOrder (l ∷ ls) (fresh atoms (l ∷ ls)) w
+      go true t old new =
+          subst (λ (order : List Lit). InOrder (l ∷ ls) order w) (sym (fresh-old atoms l ls t)) (same-below l ls (fresh atoms ls) w (old-named t) old)
+      go false t old new =
+          subst (λ (order : List Lit). InOrder (l ∷ ls) order w) (sym (fresh-new atoms l ls t)) (fork-in-order l ls (fresh (atoms ++ (atom l ∷ [])) ls) w new)
+
+-- ---- the trees of a sheet
+
+pub leaves-sorted : (x : Sheet) → NamesEachOnce (x .atoms) (branch x) → (cs : List (List Lit)) → Sorted (earlier x) (leaves (grow cs (branch x) []))
+unfolding branch earlier
+leaves-sorted x once cs =
+    let readings = x .objectives ++ ascending (x .atoms) in
+    let e : takingAll [] readings ≡ fresh [] readings = taken-fresh [] readings in
+    subst (λ (order : List Lit). Sorted (before readings) (leaves (grow cs order []))) (sym e)
+    (grown-in-order (x .atoms) cs readings [] [] refl (subst (λ (order : List Lit). Spread (x .atoms) (map atom order)) e (spread (x .atoms) (branch x) once)))
