@@ -11,7 +11,7 @@ use Rattle.sheet.specs.Layout.{byte}
 use Rattle.sheet.specs.Literals.{Lit, literal}
 use Rattle.sheet.specs.Order.{plains}
 use Rattle.search.specs.Grown.{complement, isClosed, grow}
-use Rattle.search.specs.Search.{visit}
+use Rattle.search.specs.Search.{State, Answer, Cut, withSteps, from, visit, visitCandidate}
 use Rattle.search.specs.Tree.{Tree, closed, full, fork, Run, on, off, then, walk}
 
 -- ---- a visit
@@ -24,6 +24,13 @@ module _ {A : Type 0} (cut : A) (allowance steps : ℕ) where
   pub visit-refused : allowance ≤ steps → visit cut allowance steps ≡ off steps cut
   unfolding visit
   visit-refused h = rw (le-ltb steps allowance h, visit)
+
+module _ (allowance : ℕ) (s : State) where
+  pub candidate-due : s .steps < allowance → visitCandidate allowance s ≡ on (withSteps s (s .steps + 1))
+  candidate-due h = ap (from s) (visit-due Cut allowance (s .steps) h)
+
+  pub candidate-refused : allowance ≤ s .steps → visitCandidate allowance s ≡ off s Cut
+  candidate-refused h = ap (from s) (visit-refused Cut allowance (s .steps) h)
 
 -- ---- the tree below a node
 

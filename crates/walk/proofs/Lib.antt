@@ -3,3 +3,4 @@ pub mod Bytes
 pub mod Sets
 pub mod Parts
 pub mod Exits
+pub mod Judging

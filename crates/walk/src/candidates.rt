@@ -106,3 +106,121 @@ fn settle(tried: Tried, model: u64, tests: u64, stored: usize, store: &mut [u64]
         },
     }
 }
+
+// What a candidate does: the model of a full node that has been visited.
+fn judge(
+    order: &[u8],
+    objectives: &[u8],
+    plains: &[u64],
+    negated: &[u64],
+    question: u8,
+    allowance: u64,
+    model: u64,
+    w: Walked,
+    store: &mut [u64],
+) -> Walked
+    requires { ⌜ Readable (now order) (now objectives) (now plains) (now negated) ⌝ }
+    requires { ⌜ (isLiteral 64 question ≡ true) × ((w .tests < w .steps) × ((w .stored ≤ length (now store)) × (w .ending ≡ going))) ⌝ }
+    ensures { λ r. ⌜ ((x : Sheet) → Prepared x (now (order .entry)) (now (objectives .entry)) (now (plains .entry)) (now (negated .entry)) → runOf r (now (store .exit)) ≡ judges (game x (literal question)) allowance (length (now (store .entry))) model (stateOf w (now (store .entry)))) ⌝ }
+    ensures { λ r. ⌜ Onward w r (now (store .entry)) (now (store .exit)) ⌝ }
+{
+    let part = part_of(objectives, model);
+    let stored = w.stored;
+    if passed_over(&store[..stored], part) {
+        return w;
+    }
+    let ban = ban_of(objectives, model, question);
+    let root = Literals {
+        plains: 0,
+        negated: 0,
+    };
+    let tests = w.tests + 1;
+    let tried = seek(
+        order, 0, objectives, plains, negated, ban, part, allowance, root, w.steps,
+    );
+    settle(tried, model, tests, stored, store)
+}
+
+// The candidate walk below a node: no literal of `ban` may be true.
+pub fn roam(
+    order: &[u8],
+    depth: usize,
+    objectives: &[u8],
+    plains: &[u64],
+    negated: &[u64],
+    question: u8,
+    allowance: u64,
+    ban: Literals,
+    node: Literals,
+    w: Walked,
+    store: &mut [u64],
+) -> Walked
+    requires { ⌜ Readable (now order) (now objectives) (now plains) (now negated) ⌝ }
+    requires { ⌜ (isLiteral 64 question ≡ true) × ((Sound w (now store)) × (w .ending ≡ going)) ⌝ }
+    ensures { λ r. ⌜ ((x : Sheet) (path : List Lit) → Prepared x (now (order .entry)) (now (objectives .entry)) (now (plains .entry)) (now (negated .entry)) → ban ≡ setsOf (map complementOf (literal question ∷ [])) → node ≡ setsOf path → Placed path → runOf r (now (store .exit)) ≡ walk (visitCandidate allowance) (judges (game x (literal question)) allowance (length (now (store .entry)))) (grow (candidateClauses x (literal question)) (map literal (drop depth (now (order .entry)))) path) (stateOf w (now (store .entry)))) ⌝ }
+    ensures { λ r. ⌜ Onward w r (now (store .entry)) (now (store .exit)) ⌝ }
+{
+    if allowance <= w.steps {
+        return Walked {
+            steps: w.steps,
+            tests: w.tests,
+            stored: w.stored,
+            ending: Ending::Exhausted,
+        };
+    }
+    let visited = Walked {
+        steps: w.steps + 1,
+        tests: w.tests,
+        stored: w.stored,
+        ending: Ending::Going,
+    };
+    if closed(plains, negated, ban, node) {
+        return visited;
+    }
+    if order.len() <= depth {
+        return judge(
+            order,
+            objectives,
+            plains,
+            negated,
+            question,
+            allowance,
+            node.plains,
+            visited,
+            store,
+        );
+    }
+    let l = order[depth];
+    let first = roam(
+        order,
+        depth + 1,
+        objectives,
+        plains,
+        negated,
+        question,
+        allowance,
+        ban,
+        with_literal(node, l),
+        visited,
+        store,
+    );
+    let ending = first.ending;
+    match ending {
+        Ending::Going => roam(
+            order,
+            depth + 1,
+            objectives,
+            plains,
+            negated,
+            question,
+            allowance,
+            ban,
+            with_literal(node, complement(l)),
+            first,
+            store,
+        ),
+        Ending::Affirmed(_) => first,
+        Ending::Exhausted => first,
+        Ending::Full => first,
+    }
+}

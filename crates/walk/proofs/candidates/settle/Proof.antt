@@ -1,3 +1,12 @@
+use Prim.Native.Nat.{_+_}
+use mathlib.Core.Path.{refl, sym, ap, _∙_}
+use native.Mathlib.Omega.{arith}
+use lib.ListN.{length, length-set}
+use lib.Seq.{drop-set-lt}
+use Rattle.search.specs.Search.{settle}
+use Rattle.walk.specs.declared.test.Tried.{Tried}
+use Rattle.walk.specs.Carried.{told, stepsOf}
+use Rattle.walk.proofs.Judging.{settle-missed, settle-stored, settle-full, settle-spent}
 use borrow.Author.Needs.{needs}
 use Rattle.walk.proofs.candidates.settle.Statement.{statement}
 use Rattle.walk.proofs.candidates.settle.Tie as tie
@@ -30,7 +39,19 @@ same-length c = search needs
 
 -- src/candidates.rt:87:17
 returns : tie.Need-returns
-returns c = ?
+returns c =
+    let s = c .before .before .before .before in
+    let a = s .args in
+    let is = c .before .before .tried2 .given in (
+      λ x et es. settle-stored (a .model) (is .0 .0) (a .stored) (a .store .now) x et es (is .0 .1 .0) (c .if1 .taken) ∙ ap (λ (r : Tried). settle (length (a .store .now)) (a .model) x (told r)) (sym (is .1)),
+      (
+        record {
+          fewer = omega (arith, s .pre .0, ap stepsOf (is .1));
+          room = omega (arith, c .if1 .taken, length-set (a .store .now) (a .stored) (is .0 .1 .0));
+        },
+        (omega arith, drop-set-lt (a .stored + 1) (a .store .now) (a .stored) (is .0 .1 .0) (omega arith)),
+      ),
+    )
 
 -- src/candidates.rt:101:22
 enum-known-tried-3 : tie.Need-enum-known-tried-3
@@ -38,15 +59,33 @@ enum-known-tried-3 c = search needs
 
 -- src/candidates.rt:72:1
 returns-2 : tie.Need-returns-2
-returns-2 c = ?
+returns-2 c =
+    let s = c .before .before .before in
+    let a = s .args in
+    let is = c .before .tried .given in (
+      λ x et es. settle-missed (a .model) (is .0 .0) (a .stored) (a .store .now) x et es ∙ ap (λ (r : Tried). settle (length (a .store .now)) (a .model) x (told r)) (sym (is .1)),
+      (record { fewer = omega (arith, s .pre .0, ap stepsOf (is .1)); room = s .pre .1 }, (omega arith, refl)),
+    )
 
 -- src/candidates.rt:72:1
 returns-3 : tie.Need-returns-3
-returns-3 c = ?
+returns-3 c =
+    let s = c .before .before .before .before in
+    let a = s .args in
+    let is = c .before .before .tried2 .given in (
+      λ x et es. settle-full (a .model) (is .0 .0) (a .stored) (a .store .now) x et es (is .0 .1 .0) (c .if1 .left) (s .pre .1) ∙ ap (λ (r : Tried). settle (length (a .store .now)) (a .model) x (told r)) (sym (is .1)),
+      (record { fewer = omega (arith, s .pre .0, ap stepsOf (is .1)); room = s .pre .1 }, (omega arith, refl)),
+    )
 
 -- src/candidates.rt:72:1
 returns-4 : tie.Need-returns-4
-returns-4 c = ?
+returns-4 c =
+    let s = c .before .before .before in
+    let a = s .args in
+    let is = c .before .tried3 .given in (
+      λ x et es. settle-spent (a .model) (is .0 .0) (a .stored) (a .store .now) x et es ∙ ap (λ (r : Tried). settle (length (a .store .now)) (a .model) x (told r)) (sym (is .1)),
+      (record { fewer = omega (arith, s .pre .0, ap stepsOf (is .1)); room = s .pre .1 }, (omega arith, refl)),
+    )
 
 pub settle-spec : {M : Type 1} → statement M
 settle-spec =

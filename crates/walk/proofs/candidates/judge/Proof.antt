@@ -1,0 +1,123 @@
+use mathlib.Core.List.{[], _∷_, map, List·Memᴰ·not-nil as not-nil}
+use mathlib.Core.Path.{_≡_, refl, sym, ap, _∙_}
+use native.Mathlib.Omega.{arith}
+use lib.ListN.{length}
+use lib.Seq.{length-take-le}
+use Rattle.words.specs.Lists.{pick}
+use Rattle.words.specs.Positions.{setOf}
+use Rattle.sheet.specs.Answers.{setsOf}
+use Rattle.sheet.specs.Literals.{Lit, literal}
+use Rattle.sheet.specs.Order.{plains, negated}
+use Rattle.sheet.specs.Reading.{Sheet}
+use Rattle.search.specs.Grown.{complement}
+use Rattle.search.specs.Models.{holds, part}
+use Rattle.search.specs.Search.{settle, withTest}
+use Rattle.walk.specs.declared.candidates.Ending.{Ending}
+use Rattle.walk.specs.Carried.{Prepared, testBelow, stateOf, endedAs}
+use Rattle.walk.proofs.Judging.{judge-passed, judge-tests, conditions-placed}
+use borrow.Author.Needs.{needs}
+use Rattle.walk.proofs.candidates.judge.Statement.{statement}
+use Rattle.walk.proofs.candidates.judge.Tie as tie
+use Rattle.walk.proofs.candidates.judge.Reads as reads
+use Rattle.walk.proofs.candidates.judge.Lts as lts
+use Rattle.walk.proofs.candidates.ban_of.Reads as ban-of-reads
+use Rattle.walk.proofs.candidates.passed_over.Reads as passed-over-reads
+use Rattle.walk.proofs.candidates.settle.Reads as settle-reads
+use Rattle.walk.proofs.node.part_of.Reads as part-of-reads
+use Rattle.walk.proofs.test.seek.Reads as seek-reads
+
+root-is : record { plains = 0; negated = 0 } ≡ setsOf []
+unfolding plains negated setOf
+root-is = refl
+
+-- the part that the code has found is that of the model
+its-part : (c : tie.After-part-of) (x : Sheet) → let a = c .before .before .before .before .before .before .args in
+    Prepared x (a .order .now) (a .objectives .now) (a .plains .now) (a .negated .now) → c .part-of .result ≡ part (x .objectives) (a .model)
+its-part c x is = c .part-of .ensures ∙ ap (λ os. part os (c .before .before .before .before .before .before .args .model)) (is .objectives)
+
+-- src/candidates.rt:127:9
+part-of-requires : tie.Need-part-of-requires
+part-of-requires c κs = search needs
+
+-- src/candidates.rt:129:20
+slice-reshare-prefix-passed-over : tie.Need-slice-reshare-prefix-passed-over
+slice-reshare-prefix-passed-over c = search needs
+
+-- src/candidates.rt:129:20
+slice-aggregate-passed-over : tie.Need-slice-aggregate-passed-over
+slice-aggregate-passed-over c = sym (length-take-le _ _ (c .before .before .before .before .before .before .before .pre .1 .1 .1 .0))
+
+-- src/candidates.rt:129:8
+passed-over-requires : tie.Need-passed-over-requires
+passed-over-requires c κs = search needs
+
+-- src/candidates.rt:130:9
+same-length : tie.Need-same-length
+same-length c = search needs
+
+-- src/candidates.rt:130:9
+returns : tie.Need-returns
+returns c =
+    let s = c .before .before .before .before .before .before .before .before .before in
+    let a = s .args in
+    (
+      λ x is. ap (λ (e : Ending). endedAs e (stateOf (a .w) (a .store .now))) (s .pre .1 .1 .1 .1)
+          ∙ sym (judge-passed x (literal (a .question)) (a .allowance) (length (a .store .now)) (a .model) (stateOf (a .w) (a .store .now)) (its-part (c .before .before .before) x is) (sym (c .before .passed-over .ensures) ∙ c .if1 .taken)),
+      record { sound = record { fewer = omega (arith, s .pre .1 .1 .0); room = s .pre .1 .1 .1 .0 }; grown = omega arith; rest = refl },
+    )
+
+-- src/candidates.rt:132:9
+ban-of-requires : tie.Need-ban-of-requires
+ban-of-requires c κs = search needs
+
+-- src/candidates.rt:137:17
+add-tests : tie.Need-add-tests
+add-tests c = search needs
+
+-- src/candidates.rt:138:9
+seek-requires : tie.Need-seek-requires
+seek-requires c κs = search needs
+
+-- src/candidates.rt:141:5
+settle-requires : tie.Need-settle-requires
+settle-requires c κs = search needs
+
+-- src/candidates.rt:111:1
+same-length-2 : tie.Need-same-length-2
+same-length-2 c = search needs
+
+-- src/candidates.rt:111:1
+returns-2 : tie.Need-returns-2
+returns-2 c =
+    let r = c .before .before .settle in
+    let u = c .before .before .before .before in
+    let v = u .before .before in
+    let s = v .before .before .before .before .before .before .before .before .before .before in
+    let a = s .args in
+    let o = r .ensures .1 in
+    (
+      λ x is. let us = complement (literal (a .question)) ∷ pick (holds (a .model)) (map literal (a .objectives .now)) in
+          r .ensures .0 (withTest (stateOf (a .w) (a .store .now))) refl refl
+          ∙ ap (settle (length (a .store .now)) (a .model) (withTest (stateOf (a .w) (a .store .now))))
+          (u .seek .ensures .0 (x .clauses) us [] (is .clauses) (v .ban-of .ensures) (conditions-placed (a .objectives .now) (a .model) (a .question) (s .pre .0 .objectives) (s .pre .1 .0)) root-is (λ l h. absurd (not-nil h))
+          ∙ (λ i. testBelow (x .clauses) (complement (literal (a .question)) ∷ pick (holds (a .model)) (is .objectives i)) (is .objectives i) (is .order i) [] (its-part (v .before .before .before .before) x is i) (a .allowance) (a .w .steps)))
+          ∙ sym (judge-tests x (literal (a .question)) (a .allowance) (length (a .store .now)) (a .model) (stateOf (a .w) (a .store .now)) (its-part (v .before .before .before .before) x is) (sym (v .before .before .passed-over .ensures) ∙ v .before .if1 .left)),
+      record { sound = o .0; grown = o .1 .0; rest = o .1 .1 },
+    )
+
+pub judge-spec : {M : Type 1} → statement M
+judge-spec =
+    tie.close
+    (tie.spec
+    part-of-requires
+    slice-reshare-prefix-passed-over
+    slice-aggregate-passed-over
+    passed-over-requires
+    same-length
+    returns
+    ban-of-requires
+    add-tests
+    seek-requires
+    settle-requires
+    same-length-2
+    returns-2)
