@@ -42,7 +42,7 @@ later r rows x (refused c) e says =
     )
 later r rows x (understood y) e says = (λ z m. ⊎-elim (λ h. ap (λ (w : Row). w .applies) h ∙ e) (says .0 z) (cases-cons m), says .1)
 
-first-says : (rows : List Row) (x : Sheet) → Says rows x (firstOf rows (understood x))
+pub first-says : (rows : List Row) (x : Sheet) → Says rows x (firstOf rows (understood x))
 first-says [] x = (λ r m. absurd (not-nil m), refl)
 first-says (r ∷ rows) x = go (r .applies) refl (first-says rows x)
   where
@@ -71,7 +71,7 @@ module _ (r : Row) (rows : List Row) {q : Row} (f : First (r ∷ rows) q) where
       go [] p alone = let same : r ≡ q = cc in absurd (false≢true (sym e ∙ ap (λ (z : Row). z .applies) same ∙ f .applies))
       go (b ∷ bs) p alone = record { before = bs; after = f .after; place = cc; applies = f .applies; alone = λ x m. alone x (tail m) }
 
-only : (rows : List Row) (x : Sheet) (v : Reading) → Says rows x v → v ≡ firstOf rows (understood x)
+pub only : (rows : List Row) (x : Sheet) (v : Reading) → Says rows x v → v ≡ firstOf rows (understood x)
 only [] x (refused c) says = let f = says .1 in absurd (not-nil (subst (Mem (says .0)) (sym (f .place)) (append-right (f .before) (head refl))))
 only [] x (understood y) says = ap understood (says .1)
 only (r ∷ rows) x (refused c) says = go (r .applies) refl (λ s. only rows x (refused c) s)

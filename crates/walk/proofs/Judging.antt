@@ -34,6 +34,11 @@ pub complement-twice : (l : Lit) → complement (complement l) ≡ l
 complement-twice (pos a) = refl
 complement-twice (neg a) = refl
 
+-- the root makes no literal true
+pub root-is : record { plains = 0; negated = 0 } ≡ setsOf []
+unfolding plains negated setOf
+root-is = refl
+
 -- ---- the ban of a test
 
 -- the complements of the objectives from a place on that the model satisfies

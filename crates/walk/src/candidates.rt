@@ -11,7 +11,7 @@ ghost use Rattle.sheet.specs.Reading.{Sheet};
 ghost use Rattle.sheet.specs.Answers.{setsOf};
 ghost use Rattle.search.specs.Models.{holds as isTrue};
 ghost use Rattle.search.specs.Grown.{complement as complementOf, candidateClauses, game, grow};
-ghost use Rattle.search.specs.Search.{settle as settles, judge as judges, visitCandidate, State};
+ghost use Rattle.search.specs.Search.{settle as settles, judge as judges, visitCandidate, search, State};
 ghost use Rattle.search.specs.Tree.{walk};
 ghost use Rattle.walk.specs.declared.candidates.Ending.the-variants.{Going as going};
 ghost use Rattle.walk.specs.Carried.{Placed, Readable, Prepared, told, stepsOf, stateOf, runOf, Sound, Onward};
@@ -223,4 +223,44 @@ pub fn roam(
         Ending::Exhausted => first,
         Ending::Full => first,
     }
+}
+
+// The whole candidate walk, from the root.
+pub fn walk_all(
+    order: &[u8],
+    objectives: &[u8],
+    plains: &[u64],
+    negated: &[u64],
+    question: u8,
+    allowance: u64,
+    store: &mut [u64],
+) -> Walked
+    requires { ⌜ Readable (now order) (now objectives) (now plains) (now negated) ⌝ }
+    requires { ⌜ isLiteral 64 question ≡ true ⌝ }
+    ensures { λ r. ⌜ ((x : Sheet) → Prepared x (now (order .entry)) (now (objectives .entry)) (now (plains .entry)) (now (negated .entry)) → runOf r (now (store .exit)) ≡ search (game x (literal question)) allowance (length (now (store .entry)))) ⌝ }
+    ensures { λ r. ⌜ (Sound r (now (store .exit))) × (drop (r .stored) (now (store .exit)) ≡ drop (r .stored) (now (store .entry))) ⌝ }
+{
+    let root = Literals {
+        plains: 0,
+        negated: 0,
+    };
+    let start = Walked {
+        steps: 0,
+        tests: 0,
+        stored: 0,
+        ending: Ending::Going,
+    };
+    roam(
+        order,
+        0,
+        objectives,
+        plains,
+        negated,
+        question,
+        allowance,
+        with_literal(root, complement(question)),
+        root,
+        start,
+        store,
+    )
 }

@@ -14,7 +14,7 @@ use Rattle.search.specs.Models.{holds, part}
 use Rattle.search.specs.Search.{settle, withTest}
 use Rattle.walk.specs.declared.candidates.Ending.{Ending}
 use Rattle.walk.specs.Carried.{Prepared, testBelow, stateOf, endedAs}
-use Rattle.walk.proofs.Judging.{judge-passed, judge-tests, conditions-placed}
+use Rattle.walk.proofs.Judging.{root-is, judge-passed, judge-tests, conditions-placed}
 use borrow.Author.Needs.{needs}
 use Rattle.walk.proofs.candidates.judge.Statement.{statement}
 use Rattle.walk.proofs.candidates.judge.Tie as tie
@@ -25,10 +25,6 @@ use Rattle.walk.proofs.candidates.passed_over.Reads as passed-over-read
 use Rattle.walk.proofs.candidates.settle.Reads as settle-reads
 use Rattle.walk.proofs.node.part_of.Reads as part-of-reads
 use Rattle.walk.proofs.test.seek.Reads as seek-reads
-
-root-is : record { plains = 0; negated = 0 } ≡ setsOf []
-unfolding plains negated setOf
-root-is = refl
 
 -- the part that the code has found is that of the model
 its-part : (c : tie.After-part-of) (x : Sheet) → let a = c .before .before .before .before .before .before .args in

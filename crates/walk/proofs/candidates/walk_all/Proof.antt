@@ -1,0 +1,51 @@
+use mathlib.Core.List.{List, [], _∷_, List·Memᴰ·not-nil as not-nil}
+use mathlib.Core.Path.{ap, _∙_}
+use lib.ListN.{length}
+use Rattle.sheet.specs.Answers.{setsOf}
+use Rattle.sheet.specs.Literals.{Lit, literal}
+use Rattle.search.specs.Grown.{candidateClauses, game, grow}
+use Rattle.search.specs.Search.{start, visitCandidate, judge, search as searched}
+use Rattle.search.specs.Tree.{walk}
+use Rattle.walk.proofs.Judging.{root-is}
+use borrow.Author.Needs.{needs}
+use Rattle.walk.proofs.candidates.walk_all.Statement.{statement}
+use Rattle.walk.proofs.candidates.walk_all.Tie as tie
+use Rattle.walk.proofs.candidates.walk_all.Reads as reads
+use Rattle.walk.proofs.candidates.walk_all.Lts as lts
+use Rattle.sheet.proofs.clauses.with_literal.Reads as with-literal-reads
+use Rattle.walk.proofs.candidates.roam.Reads as roam-reads
+use Rattle.walk.proofs.node.complement.Reads as complement-reads
+
+-- src/candidates.rt:261:28
+complement-requires : tie.Need-complement-requires
+complement-requires c κs = search needs
+
+-- src/candidates.rt:261:9
+with-literal-requires : tie.Need-with-literal-requires
+with-literal-requires c κs = search needs
+
+-- src/candidates.rt:253:5
+roam-requires : tie.Need-roam-requires
+roam-requires c κs = search needs
+
+-- src/candidates.rt:229:1
+same-length : tie.Need-same-length
+same-length c = search needs
+
+-- src/candidates.rt:229:1
+returns : tie.Need-returns
+unfolding searched game
+returns c =
+    let r = c .before .before .roam in
+    let s = c .before .before .before .before .before .before .before .before .before .before .before in
+    let a = s .args in
+    let q = literal (a .question) in (
+      λ x is. r .ensures .0 x [] is (c .before .before .before .before .with-literal .ensures [] root-is ∙ ap (λ (l : Lit). setsOf (l ∷ [])) (c .before .before .before .before .before .complement .ensures .1)) root-is (λ l h. absurd (not-nil h))
+          ∙ ap (λ (ls : List Lit). walk (visitCandidate (a .allowance)) (judge (game x q) (a .allowance) (length (a .store .now))) (grow (candidateClauses x q) ls []) start) (is .order),
+      (r .ensures .1 .sound, r .ensures .1 .rest),
+    )
+
+pub walk-all-spec : {M : Type 1} → statement M
+walk-all-spec =
+    tie.close
+    (tie.spec complement-requires with-literal-requires roam-requires same-length returns)
