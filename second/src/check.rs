@@ -5,6 +5,9 @@ use std::fmt;
 
 pub const ACCEPTED: u8 = 0;
 
+/// In the order of the checks.
+pub const ANSWERS: [u8; 7] = [ACCEPTED, 10, 11, 12, 13, 14, 15];
+
 /// Stands in the three places before a check. No sheet has such sizes,
 /// so a refusal that writes there is seen.
 pub const UNTOUCHED: [u32; 3] = [0xA5C3_0F1E, 0x96B4_2D78, 0xE187_4BD2];

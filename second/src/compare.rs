@@ -1,39 +1,12 @@
 //! Runs a family: makes its sheets, asks both, counts the answers, keeps the first difference.
 
-use crate::check::{CheckAnswer, ACCEPTED};
+use crate::check::{self, CheckAnswer};
+use crate::counts::Counts;
 use crate::families::Family;
-use crate::refusal;
 use crate::shrink::shrink;
 
 /// Asks the core, or in tests something that stands for it.
 pub type Check = fn(&[u8]) -> CheckAnswer;
-
-pub const ANSWERS: usize = 1 + refusal::ALL.len();
-
-/// How often each answer was reached, accepted first and then the refusals in their order.
-#[derive(Clone, Copy, Debug, Default, PartialEq, Eq)]
-pub struct Counts([u64; ANSWERS]);
-
-impl Counts {
-    pub fn codes() -> impl Iterator<Item = u8> {
-        std::iter::once(ACCEPTED).chain(refusal::ALL)
-    }
-
-    pub fn by_code(&self) -> impl Iterator<Item = (u8, u64)> + '_ {
-        Counts::codes().zip(self.0.iter().copied())
-    }
-
-    pub fn add(&mut self, other: &Counts) {
-        for (count, more) in self.0.iter_mut().zip(other.0) {
-            *count += more;
-        }
-    }
-
-    fn count(&mut self, code: u8) {
-        let place = Counts::codes().position(|known| known == code);
-        self.0[place.expect("the own reader answers these alone")] += 1;
-    }
-}
 
 pub struct Difference {
     pub index: u64,
@@ -50,7 +23,7 @@ pub struct Comparison {
 
 pub fn compare(family: &Family, seed: u64, sheets: u64, core: Check) -> Comparison {
     let mut comparison = Comparison {
-        counts: Counts::default(),
+        counts: Counts::of(&check::ANSWERS),
         differences: 0,
         first: None,
     };

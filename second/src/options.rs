@@ -1,6 +1,7 @@
 //! The arguments of the program.
 
 use crate::families;
+use crate::queries;
 
 const DEFAULT_SEED: u64 = 20_180_101;
 
@@ -8,6 +9,7 @@ const DEFAULT_SEED: u64 = 20_180_101;
 pub struct Options {
     pub seed: u64,
     pub sheets: u64,
+    pub queries: u64,
 }
 
 impl Options {
@@ -15,12 +17,14 @@ impl Options {
         let mut options = Options {
             seed: DEFAULT_SEED,
             sheets: families::default_sheets(),
+            queries: queries::default_queries(),
         };
         let mut arguments = arguments;
         while let Some(name) = arguments.next() {
             let target = match name.as_str() {
                 "--seed" => &mut options.seed,
                 "--sheets" => &mut options.sheets,
+                "--queries" => &mut options.queries,
                 _ => return Err(format!("unknown argument {name}")),
             };
             let value = arguments.next().ok_or(format!("{name} takes a number"))?;
@@ -42,17 +46,20 @@ mod tests {
 
     #[test]
     fn the_default_run_is_long_enough() {
-        assert!(options(&[]).unwrap().sheets >= 240_000);
+        let default = options(&[]).unwrap();
+        assert!(default.sheets >= 240_000);
+        assert!(default.queries >= 300_000);
     }
 
     #[test]
-    fn both_numbers_can_be_given() {
-        let given = options(&["--sheets", "12", "--seed", "7"]);
+    fn the_numbers_can_be_given() {
+        let given = options(&["--sheets", "12", "--seed", "7", "--queries", "5"]);
         assert_eq!(
             given,
             Ok(Options {
                 seed: 7,
-                sheets: 12
+                sheets: 12,
+                queries: 5
             })
         );
     }

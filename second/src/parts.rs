@@ -68,14 +68,7 @@ mod tests {
     use crate::sheet::Sheet;
 
     fn sheet(clauses: &[&[i8]], objectives: &[i8]) -> Vec<u8> {
-        let clauses = clauses.iter().map(|clause| clause.to_vec()).collect();
-        let objectives = objectives.to_vec();
-        Sheet {
-            n: 4,
-            clauses,
-            objectives,
-        }
-        .write()
+        Sheet::of(4, clauses, objectives).write()
     }
 
     #[test]

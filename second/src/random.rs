@@ -58,6 +58,13 @@ impl Random {
         from[self.place_in(from.len())]
     }
 
+    pub fn shuffle<T>(&mut self, items: &mut [T]) {
+        for last in (1..items.len()).rev() {
+            let other = self.place_in(last + 1);
+            items.swap(last, other);
+        }
+    }
+
     pub fn bytes(&mut self, length: usize) -> Vec<u8> {
         (0..length).map(|_| self.byte()).collect()
     }

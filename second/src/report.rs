@@ -1,7 +1,8 @@
 //! The lines the program prints.
 
 use crate::check::CheckAnswer;
-use crate::compare::{Check, Comparison, Counts, Difference};
+use crate::compare::{Check, Comparison, Difference};
+use crate::counts::Counts;
 use std::fmt::Write;
 
 /// The bytes of a sheet as found are shown up to here, the shrunk ones to their end.
@@ -12,11 +13,20 @@ pub fn start_of_line(name: &str) -> String {
     format!("{name:<24}")
 }
 
-pub fn rest_of_line(counts: &Counts, passed: bool) -> String {
-    let sheets: u64 = counts.by_code().map(|(_, times)| times).sum();
+/// The counted things are named in the plural.
+pub fn rest_of_line(counts: &Counts, things: &str, passed: bool) -> String {
+    let total = counts.total();
     let columns = columns(counts);
-    let verdict = if passed { "passed" } else { "FAILED" };
-    format!("{sheets:>7} sheets  {columns}  {verdict}")
+    let verdict = verdict(passed);
+    format!("{total:>7} {things:<7}  {columns}  {verdict}")
+}
+
+pub fn verdict(passed: bool) -> &'static str {
+    if passed {
+        "passed"
+    } else {
+        "FAILED"
+    }
 }
 
 pub fn difference_lines(seed: u64, name: &str, comparison: &Comparison, core: Check) -> String {
@@ -53,7 +63,7 @@ fn columns(counts: &Counts) -> String {
     columns.join(" ")
 }
 
-fn hex_of_start(bytes: &[u8]) -> String {
+pub fn hex_of_start(bytes: &[u8]) -> String {
     if bytes.len() <= SHOWN_AS_FOUND {
         return hex(bytes);
     }
@@ -62,7 +72,7 @@ fn hex_of_start(bytes: &[u8]) -> String {
 }
 
 /// Only a long run of one byte at the end is not written out.
-fn hex(bytes: &[u8]) -> String {
+pub fn hex(bytes: &[u8]) -> String {
     let same_as_last = |byte: &&u8| Some(*byte) == bytes.last();
     let run = bytes.iter().rev().take_while(same_as_last).count();
     if run <= LONG_RUN {

@@ -19,6 +19,14 @@ pub struct Sheet {
 }
 
 impl Sheet {
+    pub fn of(n: u32, clauses: &[&[i8]], objectives: &[i8]) -> Sheet {
+        Sheet {
+            n,
+            clauses: clauses.iter().map(|clause| clause.to_vec()).collect(),
+            objectives: objectives.to_vec(),
+        }
+    }
+
     pub fn read(bytes: &[u8]) -> Result<Sheet, Refusal> {
         let header = Header::read(bytes)?;
         header.check_sizes()?;

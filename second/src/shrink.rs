@@ -145,7 +145,7 @@ fn number(little_endian: &[u8]) -> usize {
 }
 
 /// The number itself, its half, and so on down to 1.
-fn halvings(number: usize) -> impl Iterator<Item = usize> {
+pub fn halvings(number: usize) -> impl Iterator<Item = usize> {
     std::iter::successors(Some(number), |&number| Some(number / 2)).take_while(|&number| number > 0)
 }
 

@@ -2,6 +2,7 @@
 use Prim.Native.Nat.{ℕ}
 use mathlib.Core.List.{List, [], _∷_}
 use lib.ListN.{length}
+use Rattle.query.specs.declared.Reply.{Reply}
 use Rattle.sheet.specs.Reading.{Reading, refused, understood}
 
 -- "that call answers 10 to 15, or n, m and k": the number, or 0
@@ -13,3 +14,7 @@ codeOf (understood x) = 0
 abbrev pub sizesOf : Reading → List ℕ → List ℕ
 sizesOf (refused c) before = before
 sizesOf (understood x) before = x .atoms ∷ length (x .clauses) ∷ length (x .objectives) ∷ []
+
+-- "the counts (steps, tests, stored)": the three lent words afterwards
+abbrev pub countsOf : Reply → List ℕ
+countsOf r = r .steps ∷ r .tests ∷ r .stored ∷ []

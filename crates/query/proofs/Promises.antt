@@ -25,11 +25,10 @@ module _ (s : List ℕ) (q allowance : ℕ) (store witness : List ℕ) where
   -- a refusal is no yes, no no, and counts nothing
   refused-kept : (c : ℕ) → (10 ≤ c) × (c ≤ 17) → Kept (resultAs (refused c) q allowance store witness)
   unfolding Kept
-  refused-kept c h =
-      (
-        record { yes = λ e. absurd (omega arith); none = λ e. absurd (omega arith) },
-        record { tests = zero-le; stored = zero-le; enough = λ _ e. omega arith },
-      )
+  refused-kept c h = (
+    record { yes = λ e. absurd (omega arith); none = λ e. absurd (omega arith); others = λ _ _. (h .0, omega arith) },
+    record { tests = zero-le; stored = zero-le; enough = λ _ e. omega arith },
+  )
 
   -- the codes of a walk
   code-yes : (a : Answer) → Right (sheetOf s) (literal q) a → codeOf a ≡ 1
@@ -51,6 +50,12 @@ module _ (s : List ℕ) (q allowance : ℕ) (store witness : List ℕ) where
   code-full Cut e = absurd (omega arith)
   code-full NoPlace e = refl
 
+  code-others : (a : Answer) → (codeOf a ≡ 1 → ⊥) → (codeOf a ≡ 2 → ⊥) → (10 ≤ codeOf a) × (codeOf a ≤ 19)
+  code-others (Yes m) y n = absurd (y refl)
+  code-others No y n = absurd (n refl)
+  code-others Cut y n = (omega arith, omega arith)
+  code-others NoPlace y n = (omega arith, omega arith)
+
   walked-kept : Promised (sheetOf s) (literal q) allowance (length store) → Kept (resultAs (understood (sheetOf s)) q allowance store witness)
   unfolding Kept
   walked-kept p =
@@ -58,6 +63,7 @@ module _ (s : List ℕ) (q allowance : ℕ) (store witness : List ℕ) where
         record {
           yes = code-yes (answered run) (p .right);
           none = λ e. subst (Right (sheetOf s) (literal q)) (code-no (answered run) e) (p .right);
+          others = code-others (answered run);
         },
         record { tests = p .bounded .tests; stored = p .bounded .stored; enough = λ h e. p .enough h (code-full (answered run) e) },
       )

@@ -15,10 +15,11 @@ use Rattle.query.specs.Query.{valuesOf}
 use Rattle.query.specs.declared.Reply.{Reply}
 
 -- Demand 2: yes exactly if some optimal model satisfies the question, shown by the first such model in reading order; no exactly if there is
--- none. A query that is neither refused nor cut off answers 1 or 2, so each of these is "exactly if".
+-- none. A code that is neither is one of the refusals 10 to 19; so where a query is not refused, each of these is "exactly if".
 pub record Answers (s : List ℕ) (q : ℕ) (reply : Reply) (before after : List ℕ) : Type 0 where
   pub yes : reply .code ≡ 1 → (m : ℕ) × First (sheetOf s) (literal q) m × (after ≡ valuesOf (atomCount s) m ++ drop (atomCount s) before)
   pub none : reply .code ≡ 2 → (m : ℕ) → Optimal (sheetOf s) m → holds m (literal q) ≡ true → ⊥
+  pub others : (reply .code ≡ 1 → ⊥) → (reply .code ≡ 2 → ⊥) → (10 ≤ reply .code) × (reply .code ≤ 19)
 
 -- Demand 3: the tests begun are no more than the distinct maximal parts among models that satisfy the question, and the parts stored no more
 -- than those among models that do not; with that many places a query is never refused for places.

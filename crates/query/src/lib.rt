@@ -13,11 +13,14 @@ ghost use Rattle.search.specs.Search.{search, answered};
 ghost use Rattle.walk.specs.Carried.{runOf};
 ghost use Rattle.query.specs.Query.{leaves, replyOf, codeOf, valuesOf, witnessed, afterWalk, queryOf};
 ghost use Rattle.query.specs.Promise.{Answers, Counts};
+use sheet::Checked;
 use sheet::clauses::clauses_into;
 use sheet::literal::is_literal;
-use sheet::order::{branch_order, objectives};
-use sheet::Checked;
-use walk::candidates::{walk_all, Ending, Walked};
+use sheet::order::branch_order;
+use sheet::order::objectives;
+use walk::candidates::Ending;
+use walk::candidates::Walked;
+use walk::candidates::walk_all;
 
 // What a query answers: the code, and the counts of the walk.
 pub struct Reply {

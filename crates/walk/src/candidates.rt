@@ -15,9 +15,14 @@ ghost use Rattle.search.specs.Search.{settle as settles, judge as judges, visit
 ghost use Rattle.search.specs.Tree.{walk};
 ghost use Rattle.walk.specs.declared.candidates.Ending.the-variants.{Going as going};
 ghost use Rattle.walk.specs.Carried.{Placed, Readable, Prepared, told, stepsOf, stateOf, runOf, Sound, Onward};
-use crate::node::{closed, complement, holds, part_of};
-use crate::test::{seek, Tried};
-use sheet::clauses::{with_literal, Literals};
+use crate::node::closed;
+use crate::node::complement;
+use crate::node::holds;
+use crate::node::part_of;
+use crate::test::Tried;
+use crate::test::seek;
+use sheet::clauses::Literals;
+use sheet::clauses::with_literal;
 
 // Why the candidate walk ends, if it does.
 pub enum Ending {
@@ -136,7 +141,16 @@ fn judge(
     };
     let tests = w.tests + 1;
     let tried = seek(
-        order, 0, objectives, plains, negated, ban, part, allowance, root, w.steps,
+        order,
+        0,
+        objectives,
+        plains,
+        negated,
+        ban,
+        part,
+        allowance,
+        root,
+        w.steps,
     );
     settle(tried, model, tests, stored, store)
 }

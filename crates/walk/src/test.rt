@@ -9,8 +9,11 @@ ghost use Rattle.sheet.specs.Literals.{Lit, literal, isLiteral};
 ghost use Rattle.sheet.specs.Answers.{setsOf};
 ghost use Rattle.search.specs.Grown.{complement as complementOf};
 ghost use Rattle.walk.specs.Carried.{Placed, Clauses, Readable, meetPart, testBelow, told, stepsOf};
-use crate::node::{closed, complement, part_of};
-use sheet::clauses::{with_literal, Literals};
+use crate::node::closed;
+use crate::node::complement;
+use crate::node::part_of;
+use sheet::clauses::Literals;
+use sheet::clauses::with_literal;
 
 // How a test ended, with the steps so far: it found no full node, or one with this part, or the steps were spent.
 pub enum Tried {

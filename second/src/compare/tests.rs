@@ -1,7 +1,7 @@
 //! The comparison with a function in the place of the core.
 
-use super::{compare, Comparison, Counts};
-use crate::check::CheckAnswer;
+use super::{compare, Comparison};
+use crate::check::{CheckAnswer, ANSWERS};
 use crate::families::{Family, ALL};
 
 const SHEETS: u64 = 300;
@@ -29,7 +29,10 @@ fn every_sheet_is_counted_under_its_answer() {
     let counted: Vec<(u8, u64)> = comparison.counts.by_code().collect();
     let pairs_led_by = |later_codes: u64| SHEETS * 2 * later_codes / 30;
     let expected = [0, 5, 4, 3, 2, 1, 0].map(pairs_led_by);
-    assert_eq!(counted, Counts::codes().zip(expected).collect::<Vec<_>>());
+    assert_eq!(
+        counted,
+        ANSWERS.into_iter().zip(expected).collect::<Vec<_>>()
+    );
 }
 
 #[test]

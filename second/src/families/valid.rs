@@ -117,15 +117,8 @@ fn literal(n: u32, random: &mut Random) -> i8 {
 fn objectives(shape: Shape, random: &mut Random) -> Vec<i8> {
     let mut choice: Vec<i8> = (1..=shape.n as i8).flat_map(|atom| [atom, -atom]).collect();
     if random.one_in(2) {
-        shuffle(&mut choice, random);
+        random.shuffle(&mut choice);
     }
     choice.truncate(shape.k as usize);
     choice
-}
-
-fn shuffle(literals: &mut [i8], random: &mut Random) {
-    for last in (1..literals.len()).rev() {
-        let other = random.place_in(last + 1);
-        literals.swap(last, other);
-    }
 }

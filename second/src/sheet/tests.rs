@@ -17,14 +17,6 @@ fn joined(words: [u32; 8], ends: &[u32], literals: &[u8], objectives: &[u8]) -> 
     [&bytes, literals, objectives].concat()
 }
 
-fn sheet(n: u32, clauses: &[&[i8]], objectives: &[i8]) -> Sheet {
-    Sheet {
-        n,
-        clauses: clauses.iter().map(|clause| clause.to_vec()).collect(),
-        objectives: objectives.to_vec(),
-    }
-}
-
 fn bytes_and_sheets() -> [(Vec<u8>, Sheet); 6] {
     let a = joined(
         [3, 2, 3, 4, 32, 40, 44, 47],
@@ -37,12 +29,12 @@ fn bytes_and_sheets() -> [(Vec<u8>, Sheet); 6] {
     let e = joined([3, 1, 2, 1, 32, 36, 37, 39], &[1], &[0xFF], &[1, 2]);
     let f = joined([1, 1, 0, 0, 32, 36, 36, 36], &[0], &[], &[]);
     [
-        (a, sheet(3, &[&[-1, -2], &[-2, -3]], &[1, 2, 3])),
-        (SHEET_B.to_vec(), sheet(2, &[&[-1]], &[1, 2])),
-        (c, sheet(2, &[], &[1])),
-        (d, sheet(1, &[], &[])),
-        (e, sheet(3, &[&[-1]], &[1, 2])),
-        (f, sheet(1, &[&[]], &[])),
+        (a, Sheet::of(3, &[&[-1, -2], &[-2, -3]], &[1, 2, 3])),
+        (SHEET_B.to_vec(), Sheet::of(2, &[&[-1]], &[1, 2])),
+        (c, Sheet::of(2, &[], &[1])),
+        (d, Sheet::of(1, &[], &[])),
+        (e, Sheet::of(3, &[&[-1]], &[1, 2])),
+        (f, Sheet::of(1, &[&[]], &[])),
     ]
 }
 
@@ -128,7 +120,7 @@ fn refused_15_objective_bytes_that_are_no_literals_or_stand_twice() {
 fn complement_may_stand_beside_an_objective() {
     let mut bytes = SHEET_B;
     bytes[38] = 0xFF;
-    assert_eq!(Sheet::read(&bytes), Ok(sheet(2, &[&[-1]], &[1, -1])));
+    assert_eq!(Sheet::read(&bytes), Ok(Sheet::of(2, &[&[-1]], &[1, -1])));
 }
 
 #[test]

@@ -112,8 +112,8 @@ returns-4 c =
     let p = sized (c .before .before .before .before .before .before .before .before .before .before .before) in
     let past = accepted-checked s (a .question) (length (a .witness .now)) (p .accepted) (none-asked (c .before .before .before .before .before .before .before .before .before) ∙ c .before .before .before .before .before .before .before .before .if1 .left) (le-ltb (length (a .witness .now)) (atomCount s) (omega (arith, c .before .before .before .before .before .before .before .if2 .left, p .atoms))) in
     let d = c .before .before .before .before .run .ensures
-            ∙ ap (λ (n : ℕ). afterWalk n (searched (game (sheetOf s) (literal (a .question))) (a .allowance) (length (a .store .now))) (a .store .now) (a .witness .now)) (sym (atoms-are s))
-            ∙ ap (λ (v : Reading). resultAs v (a .question) (a .allowance) (a .store .now) (a .witness .now)) past in
+    ∙ ap (λ (n : ℕ). afterWalk n (searched (game (sheetOf s) (literal (a .question))) (a .allowance) (length (a .store .now))) (a .store .now) (a .witness .now)) (sym (atoms-are s))
+    ∙ ap (λ (v : Reading). resultAs v (a .question) (a .allowance) (a .store .now) (a .witness .now)) past in
     (d, kept (a .sheet .now) (a .question) (a .allowance) (a .store .now) (a .witness .now) d)
 
 pub query-spec : {M : Type 1} → statement M

@@ -66,8 +66,7 @@ loop-again : tie.Need-loop-again Inv-loop μ-loop
 loop-again c =
     let l = c .before .before .before .before .before .before .before in
     let a = l .before .before .args in
-    let back = banned-back (a .objectives .now) (a .model) (l .loop .i) (omega arith) (l .loop .inv .0) (sym (c .before .before .before .before .holds .ensures) ∙ c .before .before .before .if1 .taken) in
-    (
+    let back = banned-back (a .objectives .now) (a .model) (l .loop .i) (omega arith) (l .loop .inv .0) (sym (c .before .before .before .before .holds .ensures) ∙ c .before .before .before .if1 .taken) in (
       omega arith,
       c .with-literal .ensures (bannedFrom (a .objectives .now) (a .model) (l .loop .i)) (l .loop .inv .1)
           ∙ ap (λ (x : Lit). setsOf (x ∷ bannedFrom (a .objectives .now) (a .model) (l .loop .i))) (c .before .complement .ensures .1) ∙ ap setsOf (sym back),

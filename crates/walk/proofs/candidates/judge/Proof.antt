@@ -55,8 +55,7 @@ same-length c = search needs
 returns : tie.Need-returns
 returns c =
     let s = c .before .before .before .before .before .before .before .before .before in
-    let a = s .args in
-    (
+    let a = s .args in (
       λ x is. ap (λ (e : Ending). endedAs e (stateOf (a .w) (a .store .now))) (s .pre .1 .1 .1 .1)
           ∙ sym (judge-passed x (literal (a .question)) (a .allowance) (length (a .store .now)) (a .model) (stateOf (a .w) (a .store .now)) (its-part (c .before .before .before) x is) (sym (c .before .passed-over .ensures) ∙ c .if1 .taken)),
       record { sound = record { fewer = omega (arith, s .pre .1 .1 .0); room = s .pre .1 .1 .1 .0 }; grown = omega arith; rest = refl },
@@ -90,8 +89,7 @@ returns-2 c =
     let v = u .before .before in
     let s = v .before .before .before .before .before .before .before .before .before .before in
     let a = s .args in
-    let o = r .ensures .1 in
-    (
+    let o = r .ensures .1 in (
       λ x is. let us = complement (literal (a .question)) ∷ pick (holds (a .model)) (map literal (a .objectives .now)) in
           r .ensures .0 (withTest (stateOf (a .w) (a .store .now))) refl refl
           ∙ ap (settle (length (a .store .now)) (a .model) (withTest (stateOf (a .w) (a .store .now))))

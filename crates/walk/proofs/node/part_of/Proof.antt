@@ -54,9 +54,11 @@ loop-less c = omega arith
 loop-again : tie.Need-loop-again Inv-loop μ-loop
 loop-again c =
     let l = c .before .before .before .before .before in
-    let a = l .before .before .args in
-    (omega arith, c .adding .ensures ∙ ap (λ (x : ℕ). adding x (l .loop .i - 1)) (l .loop .inv .1)
-    ∙ sym (part-back (a .objectives .now) (a .model) (l .loop .i) (omega arith) (l .loop .inv .0) (sym (c .before .before .holds .ensures) ∙ c .before .if1 .taken)))
+    let a = l .before .before .args in (
+      omega arith,
+      c .adding .ensures ∙ ap (λ (x : ℕ). adding x (l .loop .i - 1)) (l .loop .inv .1)
+          ∙ sym (part-back (a .objectives .now) (a .model) (l .loop .i) (omega arith) (l .loop .inv .0) (sym (c .before .before .holds .ensures) ∙ c .before .if1 .taken)),
+    )
 
 -- src/node.rt:42:5
 loop-less-2 : tie.Need-loop-less-2 Inv-loop μ-loop
@@ -66,9 +68,11 @@ loop-less-2 c = omega arith
 loop-again-2 : tie.Need-loop-again-2 Inv-loop μ-loop
 loop-again-2 c =
     let l = c .before .before .before .before in
-    let a = l .before .before .args in
-    (omega arith, l .loop .inv .1
-    ∙ sym (part-back (a .objectives .now) (a .model) (l .loop .i) (omega arith) (l .loop .inv .0) (sym (c .before .holds .ensures) ∙ c .if1 .left)))
+    let a = l .before .before .args in (
+      omega arith,
+      l .loop .inv .1
+          ∙ sym (part-back (a .objectives .now) (a .model) (l .loop .i) (omega arith) (l .loop .inv .0) (sym (c .before .holds .ensures) ∙ c .if1 .left)),
+    )
 
 -- src/node.rt:36:1
 returns : tie.Need-returns Inv-loop μ-loop

@@ -100,8 +100,7 @@ seek-closed-requires t c κs = c .before .before .before .before .before .pre .1
 -- src/test.rt:55:9
 seek-returns-2 : (t : ℕ) → seek-lts.Need-returns-2 (calls t) (seek-at t) seek.Post
 seek-returns-2 t c =
-    let u = c .before in
-    (
+    let u = c .before in (
       λ cs us w are eb pu en pw. sym (out-closed (visit spent _) (meetPart _ _) (map unit us ++ cs) w (visit-due spent _ _ (u .before .if1 .left)) _ (sym (u .closed .ensures cs us w are eb pu en pw) ∙ c .if2 .taken)),
       omega arith,
     )
@@ -114,11 +113,10 @@ seek-meet-requires t c κs = let r = c .before .before .before .before .before .
 seek-returns-3 : (t : ℕ) → seek-lts.Need-returns-3 (calls t) (seek-at t) seek.Post
 seek-returns-3 t c =
     let v = c .before .before .before in
-    let s = v .before .before .before .before .before .before in
-    (
+    let s = v .before .before .before .before .before .before in (
       λ cs us w are eb pu en pw. c .meet .ensures .0 ∙ ap (λ (x : Literals). meetPart (map literal (s .args .objectives .now)) (s .args .candidate) (x .plains) (s .args .steps + 1)) en
-    ∙ sym (ap (λ (ls : List Lit). testBelow cs us (map literal (s .args .objectives .now)) ls w (s .args .candidate) (s .args .allowance) (s .args .steps)) (order-end (s .args .order .now) (s .args .depth) (c .before .if3 .taken))
-    ∙ out-full (visit spent _) (meetPart _ _) (map unit us ++ cs) w (visit-due spent _ _ (v .before .if1 .left)) (sym (v .closed .ensures cs us w are eb pu en pw) ∙ c .before .before .if2 .left)),
+          ∙ sym (ap (λ (ls : List Lit). testBelow cs us (map literal (s .args .objectives .now)) ls w (s .args .candidate) (s .args .allowance) (s .args .steps)) (order-end (s .args .order .now) (s .args .depth) (c .before .if3 .taken))
+          ∙ out-full (visit spent _) (meetPart _ _) (map unit us ++ cs) w (visit-due spent _ _ (v .before .if1 .left)) (sym (v .closed .ensures cs us w are eb pu en pw) ∙ c .before .before .if2 .left)),
       omega (arith, c .meet .ensures .1),
     )
 
@@ -169,13 +167,12 @@ seek-enum-told-2 t c = search needs
 -- src/test.rt:35:1
 seek-returns-4 : (t : ℕ) → seek-lts.Need-returns-4 (calls t) (seek-at t) seek.Post
 seek-returns-4 t c =
-    let u = c .before .before .before .before .before .before in
-    (
+    let u = c .before .before .before .before .before .before in (
       λ cs us w are eb pu en pw. let l = branched t u cs us w in
-    c .seek2 .ensures .0 cs us (w ++ (complement l ∷ [])) are eb pu
-    (c .before .with-literal2 .ensures w en ∙ ap (λ (x : Lit). setsOf (x ∷ w)) (c .before .before .complement .ensures .1) ∙ sets-snoc w (complement l))
-    (placed-snoc w (complement l) pw (complement-placed l (in-atoms _ (is-literal t u cs us w are eb pu en pw))))
-    ∙ sym (goes-on t u cs us w are eb pu en pw (ap told (c .before .before .before .before .first .given .1))),
+          c .seek2 .ensures .0 cs us (w ++ (complement l ∷ [])) are eb pu
+          (c .before .with-literal2 .ensures w en ∙ ap (λ (x : Lit). setsOf (x ∷ w)) (c .before .before .complement .ensures .1) ∙ sets-snoc w (complement l))
+          (placed-snoc w (complement l) pw (complement-placed l (in-atoms _ (is-literal t u cs us w are eb pu en pw))))
+          ∙ sym (goes-on t u cs us w are eb pu en pw (ap told (c .before .before .before .before .first .given .1))),
       omega (arith, u .seek .ensures .1, ap stepsOf (c .before .before .before .before .first .given .1), c .seek2 .ensures .1),
     )
 
