@@ -1,31 +1,31 @@
 -- What a walk of an accepted sheet reads, and what it leaves. Assumes nothing.
 use Prim.Native.Nat.{ℕ, suc, _+_, _-_, _≤_, _<_}
-use mathlib.Core.Bool.{Bool, true, false, cond}
+use mathlib.Core.Bool.{true, cond}
 use mathlib.Core.List.{List, [], _∷_, _++_, map, List·Memᴰ as Mem, List·Memᴰ·head as head, List·Memᴰ·tail as tail, Memᴰ·of-map as of-map}
 use mathlib.Core.Path.{_≡_, refl, sym, ap, ap₂, _∙_, subst}
 use native.Mathlib.Omega.{arith}
 use lib.Dec.{lit≤}
 use lib.ListN.{length, take, drop, set, length-map, take-append-drop}
 use lib.Seq.{length-take-le, take-at}
-use Rattle.words.specs.Lists.{all, below}
-use Rattle.words.specs.Positions.{has}
-use Rattle.words.proofs.Lists.{length-below, put-next, map-below-next}
-use Rattle.words.proofs.Members.{all-in}
-use Rattle.sheet.specs.Layout.{atomCount, clauseCount, objectiveBytes}
-use Rattle.sheet.specs.Literals.{Lit, pos, neg, atom, literal, isLiteral, byteOf}
-use Rattle.sheet.specs.Order.{plains, negated, branch}
-use Rattle.sheet.specs.Reading.{Sheet, sheetOf, Accepted}
+use Rattle.query.specs.Query.{leaves, replyOf, codeOf, valuesOf, witnessed, placed, afterWalk}
+use Rattle.search.proofs.Sound.{sound}
+use Rattle.search.specs.Models.{value}
+use Rattle.search.specs.Search.{State, answered, ended}
 use Rattle.sheet.proofs.EachOnce.{names-each-once, objectives-literals}
 use Rattle.sheet.proofs.Literals.{between-holds, literal-low, literal-high, literal-atom}
 use Rattle.sheet.proofs.Understood.{passed, clauses-counted, objective-bytes-counted}
-use Rattle.search.specs.Models.{value}
-use Rattle.search.specs.Search.{State, Answer, answered, ended}
-use Rattle.search.proofs.Sound.{sound}
-use Rattle.walk.specs.declared.candidates.Ending.{Ending}
+use Rattle.sheet.specs.Layout.{atomCount, clauseCount, objectiveBytes}
+use Rattle.sheet.specs.Literals.{Lit, pos, neg, atom, literal, isLiteral, byteOf}
+use Rattle.sheet.specs.Order.{plains, negated, branch}
+use Rattle.sheet.specs.Reading.{sheetOf, Accepted}
+use Rattle.walk.specs.Carried.{Placed, Readable, Prepared, stateOf, endedAs, runOf, Sound}
 use Rattle.walk.specs.declared.candidates.Ending.the-variants.{Going, Affirmed, Exhausted, Full}
+use Rattle.walk.specs.declared.candidates.Ending.{Ending}
 use Rattle.walk.specs.declared.candidates.Walked.{Walked}
-use Rattle.walk.specs.Carried.{Placed, Clauses, Readable, Prepared, stateOf, endedAs, runOf, Sound}
-use Rattle.query.specs.Query.{leaves, replyOf, codeOf, valuesOf, witnessed, placed, afterWalk}
+use Rattle.words.proofs.Lists.{length-below, put-next, map-below-next}
+use Rattle.words.proofs.Members.{all-in}
+use Rattle.words.specs.Lists.{all, below}
+use Rattle.words.specs.Positions.{has}
 
 -- ---- the byte of a literal
 

@@ -1,21 +1,20 @@
 -- The demands, of every query. Assumes nothing.
 use Prim.Native.Nat.{ℕ, _≤_, zero-le}
-use mathlib.Core.Bool.{true}
 use mathlib.Core.List.{List, _++_}
-use mathlib.Core.Path.{_≡_, refl, sym, ap, _∙_, subst}
+use mathlib.Core.Path.{_≡_, refl, sym, ap, subst}
 use native.Mathlib.Omega.{arith}
 use lib.ListN.{length, drop}
+use Rattle.query.proofs.Checking.{refusal-code, past-checks}
+use Rattle.query.specs.Promise.{Answers, Counts}
+use Rattle.query.specs.Query.{Result, codeOf, valuesOf, witnessed, checked, resultAs, queryOf}
+use Rattle.search.proofs.Promises.{promised-accepted}
+use Rattle.search.specs.Demands.{Right, First, Promised}
+use Rattle.search.specs.Grown.{game}
+use Rattle.search.specs.Search.{Answer, Yes, No, Cut, NoPlace, search as searched, answered}
+use Rattle.sheet.proofs.Understood.{atoms-are}
 use Rattle.sheet.specs.Layout.{atomCount}
 use Rattle.sheet.specs.Literals.{literal}
 use Rattle.sheet.specs.Reading.{Sheet, sheetOf, Reading, refused, understood}
-use Rattle.sheet.proofs.Understood.{atoms-are}
-use Rattle.search.specs.Demands.{Right, First, Promised}
-use Rattle.search.specs.Grown.{game}
-use Rattle.search.specs.Search.{Answer, Yes, No, Cut, NoPlace, search as searched, answered, ended}
-use Rattle.search.proofs.Promises.{promised-accepted}
-use Rattle.query.specs.Query.{Result, codeOf, valuesOf, witnessed, afterWalk, checked, resultAs, queryOf}
-use Rattle.query.specs.Promise.{Answers, Counts}
-use Rattle.query.proofs.Checking.{refusal-code, Past, past-checks}
 
 module _ (s : List ℕ) (q allowance : ℕ) (store witness : List ℕ) where
   -- what is promised of a result

@@ -4,15 +4,15 @@ use mathlib.Core.Bool.{true}
 use mathlib.Core.List.{List, _++_}
 use mathlib.Core.Path.{_≡_}
 use lib.ListN.{length, drop}
-use Rattle.sheet.specs.Layout.{atomCount}
-use Rattle.sheet.specs.Literals.{literal}
-use Rattle.sheet.specs.Reading.{sheetOf}
+use Rattle.query.specs.Query.{valuesOf}
+use Rattle.query.specs.declared.Reply.{Reply}
 use Rattle.search.specs.Demands.{First}
 use Rattle.search.specs.Grown.{complement}
 use Rattle.search.specs.Maximal.{maximalParts}
 use Rattle.search.specs.Models.{holds, Optimal}
-use Rattle.query.specs.Query.{valuesOf}
-use Rattle.query.specs.declared.Reply.{Reply}
+use Rattle.sheet.specs.Layout.{atomCount}
+use Rattle.sheet.specs.Literals.{literal}
+use Rattle.sheet.specs.Reading.{sheetOf}
 
 -- Demand 2: yes exactly if some optimal model satisfies the question, shown by the first such model in reading order; no exactly if there is
 -- none. A code that is neither is one of the refusals 10 to 19; so where a query is not refused, each of these is "exactly if".

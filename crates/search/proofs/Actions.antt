@@ -19,13 +19,13 @@ visit-holds {P = P} {Q = Q} cut allowance n p q = go (ltb n allowance) refl
     go true e = rw (e, visit) (going (p (ltb-true n allowance e)))
     go false e = rw (e, visit) (gone (q (ltb-false n allowance e)))
 
-pub meet-holds : (g : Game) (allowance places c m n : ℕ) {P : ℕ → Type 0} {Q : ℕ → Stop → Type 0}
+pub meet-holds : (g : Game) (c m n : ℕ) {P : ℕ → Type 0} {Q : ℕ → Stop → Type 0}
     → (g .above (g .part m) (g .part c) ≡ true → Q n (found (g .part m)))
-    → (g .above (g .part m) (g .part c) ≡ false → P n) → Holds P Q (meet g allowance places c m n)
+    → (g .above (g .part m) (g .part c) ≡ false → P n) → Holds P Q (meet g c m n)
 unfolding meet
-meet-holds g allowance places c m n {P} {Q} q p = go (g .above (g .part m) (g .part c)) refl
+meet-holds g c m n {P} {Q} q p = go (g .above (g .part m) (g .part c)) refl
   where
-    go : (b : Bool) → g .above (g .part m) (g .part c) ≡ b → Holds P Q (meet g allowance places c m n)
+    go : (b : Bool) → g .above (g .part m) (g .part c) ≡ b → Holds P Q (meet g c m n)
     go true e = rw (e, meet) (gone (q e))
     go false e = rw (e, meet) (going (p e))
 
@@ -65,7 +65,7 @@ module _ {P : State → Type 0} {Q : State → Answer → Type 0} (places m : �
   pub judge-holds : (g : Game) (allowance : ℕ) (s : State)
       → (any (λ p. g .above p (g .part m)) (s .stored) ≡ true → P s)
       → (any (λ p. g .above p (g .part m)) (s .stored) ≡ false
-      → Holds (λ n. Q (withSteps (withTest s) n) (Yes m)) (Settled P Q places (withTest s)) (test g allowance places m (s .steps)))
+      → Holds (λ n. Q (withSteps (withTest s) n) (Yes m)) (Settled P Q places (withTest s)) (test g allowance m (s .steps)))
       → Holds P Q (judge g allowance places m s)
   unfolding judge
   judge-holds g allowance s p q = go (any (λ p. g .above p (g .part m)) (s .stored)) refl

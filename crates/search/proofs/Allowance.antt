@@ -41,13 +41,13 @@ module _ (g : Game) (allowance places : ℕ) where
   Stopped k n spent = Spent n
   Stopped k n (found p) = Going k n
 
-  test-holds : (c k n : ℕ) → Going (testVisits g c + k) n → Holds (Going k) (Stopped k) (test g allowance places c n)
+  test-holds : (c k n : ℕ) → Going (testVisits g c + k) n → Holds (Going k) (Stopped k) (test g allowance c n)
   unfolding test
   test-holds c k n h =
       holds-map (λ n h. omega arith) (λ n x h. h)
       (walk-holds {P = λ j. Going (j + k)} (λ j. 1 + j) (λ m j. 0 + j)
       (λ j n h. visit-holds spent allowance n (λ l. omega arith) (λ l. omega arith))
-      (λ m j n h. meet-holds g allowance places c m n (λ e. omega arith) (λ e. omega arith))
+      (λ m j n h. meet-holds g c m n (λ e. omega arith) (λ e. omega arith))
       (g .rivals c) 0 n (omega (arith, visits-due (λ u. 0) (g .rivals c) 0)))
 
   -- what a cut says besides

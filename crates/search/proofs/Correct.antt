@@ -10,11 +10,10 @@ use Rattle.search.proofs.Actions.{visit-holds, meet-holds, candidate-ho
 use Rattle.search.proofs.Fair.{tops, Fair, Unbeaten, FirstUnbeaten, Says, Within}
 use Rattle.search.proofs.Past.{Past, past-none, past-map, past-all, past-one, past-next, above-past}
 use Rattle.search.proofs.Picking.{distinct-in, distinct-out, each-snoc, Among, among-none, among-snoc, among-length}
-use Rattle.words.proofs.Members.{pick-in, pick-out}
 use Rattle.search.proofs.Walking.{Holds, holds-map, walk-holds}
 use Rattle.search.specs.Search.{Game, State, Answer, Yes, No, Cut, NoPlace, Stop, spent, found, withTest, test, judge, search, start, answered, ended}
 use Rattle.search.specs.Tree.{leaves}
-use Rattle.words.proofs.Members.{any-out, any-none}
+use Rattle.words.proofs.Members.{pick-in, pick-out, any-out, any-none}
 use Rattle.words.specs.Lists.{any}
 
 -- ---- the distinct maximal parts
@@ -57,13 +56,13 @@ module _ (g : Game) (affirming denying : List ℕ) (fair : Fair g affirming deny
       let over : g .above (g .part u) (g .part c) ≡ true = fair .transitive _ _ _ b a in
       above-past g (fair .irreflexive) (fair .rivalsOrdered c) h u (fair .denyingWalked c u d over) b over
 
-  test-finds : (c n : ℕ) → Holds (λ k. Undenied c) (λ k. Finds c) (test g allowance places c n)
+  test-finds : (c n : ℕ) → Holds (λ k. Undenied c) (λ k. Finds c) (test g allowance c n)
   unfolding test
   test-finds c n =
       holds-map (λ k (h : Rivals c []) u d a. past-all h u (fair .denyingWalked c u d a) a) (λ k x h. h)
       (walk-holds {P = λ rest k. Rivals c rest} (λ r. r) _∷_
       (λ rest k h. visit-holds spent allowance k (λ l. h) (λ l. tt))
-      (λ m rest k h. meet-holds g allowance places c m k (λ a. (a, first-found h a)) (λ e. past-one h (λ a. false≢true (sym e ∙ a))))
+      (λ m rest k h. meet-holds g c m k (λ a. (a, first-found h a)) (λ e. past-one h (λ a. false≢true (sym e ∙ a))))
       (g .rivals c) [] n (past-none (g .rivals c)))
 
   -- ---- the candidate walk

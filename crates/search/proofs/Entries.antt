@@ -1,9 +1,9 @@
 -- Entries of one key, and lists in which each entry comes before all later ones. Assumes nothing.
-use mathlib.Core.Bool.{Bool, true, false, false≢true}
+use mathlib.Core.Bool.{Bool, true}
 use mathlib.Core.List.{List, [], _∷_, _++_, map, List·Memᴰ as Mem, List·Memᴰ·head as head, List·Memᴰ·tail as tail, List·Memᴰ·not-nil as not-nil, List·Memᴰ·cases-cons as cases-cons, List·Memᴰ·append-cases as append-cases, Memᴰ·cast as cast, Memᴰ·map as mem-map}
 use mathlib.Core.Logic.{_⊎_, inl, inr, ⊎-elim}
 use mathlib.Core.Path.{_≡_, refl, sym, ap, _∙_}
-use Rattle.words.specs.Lists.{pick, Distinct}
+use Rattle.words.specs.Lists.{Distinct}
 
 -- ---- where no key stands twice, entries with one key are one
 

@@ -1,7 +1,7 @@
 -- What the theory asks of a game, and what it then says of the search. Nothing here knows of clauses, atoms or words: a later rule for
 -- closing nodes, or another comparison of parts, has only to be fair. Assumes nothing.
 use Prim.Native.Nat.{ℕ, _≤_}
-use mathlib.Core.Bool.{Bool, true, false}
+use mathlib.Core.Bool.{true}
 use mathlib.Core.List.{List, [], _∷_, _++_, map, List·Memᴰ as Mem}
 use mathlib.Core.Logic.{_⊎_}
 use mathlib.Core.Path.{_≡_}

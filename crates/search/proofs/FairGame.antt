@@ -4,23 +4,22 @@ use mathlib.Core.Bool.{true}
 use mathlib.Core.List.{List, [], _∷_, _++_, map, List·Memᴰ as Mem, List·Memᴰ·head as head, List·Memᴰ·not-nil as not-nil, List·Memᴰ·cases-cons as cases-cons, List·Memᴰ·append-cases as append-cases, List·Memᴰ·eq-of-singleton as eq-of-singleton, Memᴰ·append-left as append-left, Memᴰ·append-right as append-right, Memᴰ·map as mem-map, Memᴰ·of-map as of-map}
 use mathlib.Core.Logic.{⊎-elim}
 use mathlib.Core.Path.{_≡_, refl, sym, ap, _∙_, subst}
-use Rattle.words.proofs.Members.{any-in, any-out, all-in, all-out, in-below, below-in}
-use Rattle.words.specs.Lists.{any, pick, below}
-use Rattle.sheet.specs.Literals.{Lit}
-use Rattle.sheet.specs.Order.{branch}
-use Rattle.sheet.specs.Reading.{Sheet}
 use Rattle.search.proofs.Entries.{Sorted}
-use Rattle.words.proofs.Members.{pick-in, pick-out}
 use Rattle.search.proofs.Fair.{Ordered, Fair}
 use Rattle.search.proofs.Leaves.{leaf-model, model-leaf}
 use Rattle.search.proofs.Nodes.{complement-atom, Agrees}
 use Rattle.search.proofs.Parts.{contains-irreflexive, contains-transitive, contains-keeps, contains-earlier, earlier-asymmetric}
 use Rattle.search.proofs.ReadingOrder.{leaves-sorted}
 use Rattle.search.proofs.Sound.{Sound}
-use Rattle.sheet.proofs.EachOnce.{InRange}
 use Rattle.search.specs.Grown.{complement, unit, grow, candidateClauses, testClauses, game}
 use Rattle.search.specs.Models.{holds, satisfies, models, Model, earlier}
 use Rattle.search.specs.Tree.{leaves}
+use Rattle.sheet.proofs.EachOnce.{InRange}
+use Rattle.sheet.specs.Literals.{Lit}
+use Rattle.sheet.specs.Order.{branch}
+use Rattle.sheet.specs.Reading.{Sheet}
+use Rattle.words.proofs.Members.{any-in, any-out, all-in, all-out, in-below, below-in, pick-in, pick-out}
+use Rattle.words.specs.Lists.{any, pick, below}
 
 -- ---- the models that satisfy a literal
 

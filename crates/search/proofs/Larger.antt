@@ -64,17 +64,17 @@ module _ (g : Game) (a b places : ℕ) (le : a ≤ b) where
       go false true e e′ = let l : a < n + 1 = omega (arith, ltb-false n a e) in rw (e, e′, visit) (further (going l))
       go false false e e′ = rw (e, e′, visit) same
 
-  meet-late : (c m n : ℕ) → a < n → Always (λ k. a < k) (meet g b places c m n)
-  meet-late c m n h = meet-holds g b places c m n (λ e. h) (λ e. h)
+  meet-late : (c m n : ℕ) → a < n → Always (λ k. a < k) (meet g c m n)
+  meet-late c m n h = meet-holds g c m n (λ e. h) (λ e. h)
 
   visit-late : {A : Type 0} (cut : A) (n : ℕ) → a < n → Always (λ k. a < k) (visit cut b n)
   visit-late cut n h = visit-holds cut b n (λ l. omega arith) (λ l. h)
 
-  test-late : (c n : ℕ) → a < n → Always (λ k. a < k) (test g b places c n)
+  test-late : (c n : ℕ) → a < n → Always (λ k. a < k) (test g b c n)
   unfolding test
   test-late c = walk-keeps (visit-late spent) (meet-late c) (g .rivals c)
 
-  test-agree : (c n : ℕ) → Agree spent Late (test g a places c n) (test g b places c n)
+  test-agree : (c n : ℕ) → Agree spent Late (test g a c n) (test g b c n)
   unfolding test meet
   test-agree c = walk-agree (λ n. visit-late spent) (λ n. meet-late c) (visit-agree spent) (λ m n. same) (g .rivals c)
 

@@ -4,13 +4,13 @@ use mathlib.Core.Bool.{Bool, true, false, not}
 use mathlib.Core.List.{List, [], _∷_, _++_, map, map-append, append-nil, append-assoc, List·Memᴰ as Mem, List·Memᴰ·head as head, List·Memᴰ·not-nil as not-nil, List·Memᴰ·append-cases as append-cases, List·Memᴰ·eq-of-singleton as eq-of-singleton, Memᴰ·cast as cast, Memᴰ·append-left as append-left, Memᴰ·append-right as append-right, Memᴰ·of-map as of-map}
 use mathlib.Core.Logic.{⊎-elim}
 use mathlib.Core.Path.{_≡_, refl, sym, ap, _∙_, subst}
-use Rattle.sheet.specs.Literals.{Lit, atom}
-use Rattle.sheet.specs.Order.{plains}
-use Rattle.sheet.proofs.EachOnce.{NamesEachOnce}
 use Rattle.search.proofs.Nodes.{complement-atom, holds-complement, Agrees, satisfied-open, open-satisfied, Spread, plains-fits, plains-agrees, one-word}
 use Rattle.search.specs.Grown.{complement, Node, isClosed, grow}
 use Rattle.search.specs.Models.{holds, satisfies}
 use Rattle.search.specs.Tree.{leaves}
+use Rattle.sheet.proofs.EachOnce.{NamesEachOnce}
+use Rattle.sheet.specs.Literals.{Lit, atom}
+use Rattle.sheet.specs.Order.{plains}
 
 -- the atoms of a node w and of the literals still to be tried below it
 abbrev pub atomsOf : Node → List Lit → List ℕ

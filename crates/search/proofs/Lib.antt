@@ -16,4 +16,3 @@ pub mod Sound
 pub mod FairGame
 pub mod Right
 pub mod Promises
-pub mod Cases

@@ -10,17 +10,16 @@ use lib.Bits.{or-lt}
 use lib.Dec.{eqb}
 use lib.Pow.{pow-lt, pow-pos}
 use borrow.Author.Tests.{eq-eqb, eqb-true, not-true}
-use Rattle.words.proofs.Bits.{has-setOf, has-past, or-power, same-positions}
-use Rattle.words.proofs.Members.{any-in, any-out, any-none, all-in, all-out}
-use Rattle.words.specs.Lists.{any, all, pick, Distinct}
-use Rattle.words.specs.Positions.{has, setOf}
-use Rattle.sheet.specs.Literals.{Lit, pos, neg, atom, plain}
-use Rattle.sheet.specs.Order.{place, plains}
 use Rattle.search.proofs.Entries.{one-key}
-use Rattle.words.proofs.Bools.{refuted}
-use Rattle.words.proofs.Members.{pick-in, pick-out}
 use Rattle.search.specs.Grown.{complement, sameLit, Node, falseAt, isClosed}
 use Rattle.search.specs.Models.{value, holds, satisfies}
+use Rattle.sheet.specs.Literals.{Lit, pos, neg, atom, plain}
+use Rattle.sheet.specs.Order.{place, plains}
+use Rattle.words.proofs.Bits.{has-setOf, has-past, or-power, same-positions}
+use Rattle.words.proofs.Bools.{refuted}
+use Rattle.words.proofs.Members.{any-in, any-out, any-none, all-in, all-out, pick-in, pick-out}
+use Rattle.words.specs.Lists.{any, all, pick, Distinct}
+use Rattle.words.specs.Positions.{has, setOf}
 
 -- ---- literals and their complements
 

@@ -8,16 +8,15 @@ use native.Mathlib.Omega.{arith}
 use lib.Dec.{eqb}
 use lib.ListN.{length, getD}
 use borrow.Author.Tests.{eq-eqb, eqb-true, not-true}
-use Rattle.words.proofs.Bits.{has-setOf}
-use Rattle.words.proofs.Bools.{and-split}
-use Rattle.words.proofs.Containment.{within-says, within-holds}
-use Rattle.words.proofs.Members.{any-in, any-out, mem-at, at-mem}
-use Rattle.words.specs.Positions.{has, within, strictlyWithin}
+use Rattle.search.specs.Models.{holds, met, part, contains, firstTrue, earlier}
 use Rattle.sheet.specs.Literals.{Lit, pos}
 use Rattle.sheet.specs.Order.{ascending}
 use Rattle.sheet.specs.Reading.{Sheet}
-use Rattle.words.proofs.Bools.{refuted}
-use Rattle.search.specs.Models.{holds, met, part, contains, firstTrue, earlier}
+use Rattle.words.proofs.Bits.{has-setOf}
+use Rattle.words.proofs.Bools.{and-split, refuted}
+use Rattle.words.proofs.Containment.{within-says, within-holds}
+use Rattle.words.proofs.Members.{any-in, any-out, mem-at, at-mem}
+use Rattle.words.specs.Positions.{has, within, strictlyWithin}
 
 -- ---- containment is a strict order
 

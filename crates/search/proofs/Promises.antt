@@ -1,21 +1,20 @@
 -- What the search promises, for every accepted sheet and question, allowance and number of places. Assumes nothing.
-use Prim.Native.Nat.{ℕ, _≤_, _<_}
+use Prim.Native.Nat.{ℕ, _≤_}
 use mathlib.Core.Bool.{true}
 use mathlib.Core.List.{List}
 use mathlib.Core.Path.{_≡_, sym, subst}
 use lib.ListN.{length}
-use Rattle.sheet.specs.Layout.{atomCount}
-use Rattle.sheet.specs.Literals.{Lit, literal, isLiteral}
-use Rattle.sheet.specs.Reading.{Sheet, sheetOf, Accepted}
-use Rattle.search.specs.Demands.{Promised}
-use Rattle.search.specs.Grown.{complement, game}
-use Rattle.search.specs.Maximal.{maximalParts}
-use Rattle.search.specs.Search.{search, answered, ended}
 use Rattle.search.proofs.Allowance.{steps-within, cut-at-allowance}
 use Rattle.search.proofs.Correct.{says, counted, places-suffice}
 use Rattle.search.proofs.FairGame.{fair}
 use Rattle.search.proofs.Right.{affirming, denying, tops-affirming, tops-denying, says-right}
 use Rattle.search.proofs.Sound.{Sound, sound}
+use Rattle.search.specs.Demands.{Promised}
+use Rattle.search.specs.Grown.{game}
+use Rattle.search.specs.Search.{search, answered, ended}
+use Rattle.sheet.specs.Layout.{atomCount}
+use Rattle.sheet.specs.Literals.{Lit, literal, isLiteral}
+use Rattle.sheet.specs.Reading.{Sheet, sheetOf, Accepted}
 
 pub promised : (x : Sheet) (q : Lit) → Sound x q → (allowance places : ℕ) → Promised x q allowance places
 promised x q ok allowance places =

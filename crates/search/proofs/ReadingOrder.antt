@@ -6,19 +6,19 @@ use mathlib.Core.Logic.{⊎-elim}
 use mathlib.Core.Path.{_≡_, refl, sym, ap, ap₂, _∙_, subst}
 use lib.Dec.{eqb}
 use borrow.Author.Tests.{eqb-true}
-use Rattle.words.proofs.Members.{any-out}
-use Rattle.words.specs.Lists.{any}
-use Rattle.sheet.proofs.BranchLaws.{taking-old, taking-new}
-use Rattle.sheet.proofs.EachOnce.{NamesEachOnce}
-use Rattle.sheet.specs.Literals.{Lit, atom}
-use Rattle.sheet.specs.Order.{names, takingAll, ascending, branch}
-use Rattle.sheet.specs.Reading.{Sheet}
 use Rattle.search.proofs.Entries.{Sorted, sorted-append, sorted-by}
 use Rattle.search.proofs.Leaves.{atomsOf, atoms-child, leaves-closed, leaves-full, leaves-fork, leaf-agrees, spread}
 use Rattle.search.proofs.Nodes.{complement-atom, complement-true, Agrees, decided, Spread}
 use Rattle.search.specs.Grown.{complement, Node, isClosed, grow}
 use Rattle.search.specs.Models.{holds, firstTrue, earlier}
 use Rattle.search.specs.Tree.{leaves}
+use Rattle.sheet.proofs.BranchLaws.{taking-old, taking-new}
+use Rattle.sheet.proofs.EachOnce.{NamesEachOnce}
+use Rattle.sheet.specs.Literals.{Lit, atom}
+use Rattle.sheet.specs.Order.{names, takingAll, ascending, branch}
+use Rattle.sheet.specs.Reading.{Sheet}
+use Rattle.words.proofs.Members.{any-out}
+use Rattle.words.specs.Lists.{any}
 
 -- ---- the branch order from its front
 

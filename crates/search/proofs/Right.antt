@@ -4,9 +4,6 @@ use mathlib.Core.Bool.{Bool, true, false, not}
 use mathlib.Core.List.{List, List·Memᴰ as Mem, List·Memᴰ·cases-cons as cases-cons, List·Memᴰ·append-cases as append-cases}
 use mathlib.Core.Logic.{_⊎_, inl, inr, ⊎-elim}
 use mathlib.Core.Path.{_≡_, refl, ap, _∙_, subst}
-use Rattle.words.specs.Lists.{pick}
-use Rattle.sheet.specs.Literals.{Lit}
-use Rattle.sheet.specs.Reading.{Sheet}
 use Rattle.search.proofs.Entries.{Sorted, sorted-later}
 use Rattle.search.proofs.Fair.{tops, Unbeaten, FirstUnbeaten, Says}
 use Rattle.search.proofs.FairGame.{satisfying-in, satisfying-out, fair}
@@ -19,6 +16,9 @@ use Rattle.search.specs.Maximal.{maximalParts}
 use Rattle.search.specs.Models.{holds, models, Model, Optimal, earlier}
 use Rattle.search.specs.Search.{Answer, Yes, No, Cut, NoPlace}
 use Rattle.search.specs.Tree.{leaves}
+use Rattle.sheet.specs.Literals.{Lit}
+use Rattle.sheet.specs.Reading.{Sheet}
+use Rattle.words.specs.Lists.{pick}
 
 module _ (x : Sheet) (q : Lit) where
   -- the models that satisfy the question, and those that do not

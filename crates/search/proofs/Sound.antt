@@ -1,23 +1,20 @@
 -- What the theory asks of a sheet and a question, and that an accepted sheet and a literal of it have it. Assumes nothing.
-use Prim.Native.Nat.{ℕ, _+_, _-_, _≤_, _<_}
+use Prim.Native.Nat.{ℕ, _≤_}
 use mathlib.Core.Bool.{true}
-use mathlib.Core.List.{List, map, List·Memᴰ as Mem, Memᴰ·cast as cast, Memᴰ·of-map as of-map}
-use mathlib.Core.Path.{_≡_, sym, ap, _∙_, subst}
+use mathlib.Core.List.{List, map, List·Memᴰ as Mem, Memᴰ·of-map as of-map}
+use mathlib.Core.Path.{_≡_, sym, _∙_, subst}
 use native.Mathlib.Omega.{arith}
-use lib.ListN.{length, getD, drop}
-use lib.Seq.{getD-take, getD-drop}
-use borrow.Author.Tests.{not-false}
-use Rattle.words.proofs.Bools.{or-split}
-use Rattle.words.proofs.Members.{any-none, mem-at, at-mem, in-below, below-in}
-use Rattle.words.specs.Lists.{below}
+use lib.ListN.{length}
 use Rattle.sheet.proofs.ClauseLaws.{clause-byte}
 use Rattle.sheet.proofs.EachOnce.{InRange, NamesEachOnce, objective-literal, names-each-once}
 use Rattle.sheet.proofs.Literals.{between-says, literal-atom, literal-small}
-use Rattle.sheet.proofs.Understood.{length-part, objectives-counted, passed}
-use Rattle.sheet.specs.Layout.{byte, atomCount, clauseCount, literalsAt, objectivesAt, clauseStart, clauseEnd, clauseBytes, literalBytes, objectiveBytes, part}
+use Rattle.sheet.proofs.Understood.{objectives-counted, passed}
+use Rattle.sheet.specs.Layout.{atomCount, clauseCount, clauseBytes, objectiveBytes}
 use Rattle.sheet.specs.Literals.{Lit, atom, literal, isLiteral}
 use Rattle.sheet.specs.Order.{branch}
-use Rattle.sheet.specs.Reading.{Sheet, sheetOf, noLiteral, badLiteral, badAt, badObjective, Accepted}
+use Rattle.sheet.specs.Reading.{Sheet, sheetOf, Accepted}
+use Rattle.words.proofs.Members.{below-in}
+use Rattle.words.specs.Lists.{below}
 
 pub record Sound (x : Sheet) (q : Lit) : Type 0 where
   pub atoms : x .atoms ≤ 64

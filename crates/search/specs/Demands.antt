@@ -1,16 +1,15 @@
 -- What a search promises, in the words of source document 000, section 2, and of demands 2 and 3.
 use Prim.Native.Nat.{ℕ, _≤_}
 use mathlib.Core.Bool.{true}
-use mathlib.Core.List.{List}
 use mathlib.Core.Logic.{_⊎_}
 use mathlib.Core.Path.{_≡_}
 use lib.ListN.{length}
-use Rattle.sheet.specs.Literals.{Lit}
-use Rattle.sheet.specs.Reading.{Sheet}
-use Rattle.search.specs.Models.{holds, Optimal, earlier}
 use Rattle.search.specs.Grown.{complement, game}
 use Rattle.search.specs.Maximal.{maximalParts}
+use Rattle.search.specs.Models.{holds, Optimal, earlier}
 use Rattle.search.specs.Search.{State, Answer, Yes, No, Cut, NoPlace, search, answered, ended}
+use Rattle.sheet.specs.Literals.{Lit}
+use Rattle.sheet.specs.Reading.{Sheet}
 
 -- m is an optimal model that satisfies q, and the first of them in reading order
 pub record First (x : Sheet) (q : Lit) (m : ℕ) : Type 0 where

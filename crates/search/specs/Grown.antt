@@ -3,13 +3,13 @@ use Prim.Native.Nat.{ℕ}
 use mathlib.Core.Bool.{Bool, true, false}
 use mathlib.Core.List.{List, [], _∷_, _++_, map}
 use lib.Dec.{eqb}
-use Rattle.words.specs.Lists.{any, all, pick}
-use Rattle.sheet.specs.Literals.{Lit, pos, neg}
-use Rattle.sheet.specs.Order.{plains, branch}
-use Rattle.sheet.specs.Reading.{Sheet}
 use Rattle.search.specs.Models.{holds, part, contains}
 use Rattle.search.specs.Search.{Game}
 use Rattle.search.specs.Tree.{Tree, closed, full, fork}
+use Rattle.sheet.specs.Literals.{Lit, pos, neg}
+use Rattle.sheet.specs.Order.{plains, branch}
+use Rattle.sheet.specs.Reading.{Sheet}
+use Rattle.words.specs.Lists.{any, all, pick}
 
 -- the complement of a literal
 abbrev pub complement : Lit → Lit

@@ -3,10 +3,10 @@ use Prim.Native.Nat.{ℕ}
 use mathlib.Core.Bool.{Bool, true, false, not}
 use mathlib.Core.List.{List, [], _∷_, map}
 use lib.Dec.{eqb}
-use Rattle.words.specs.Lists.{any, pick}
+use Rattle.search.specs.Models.{models, holds, part, contains}
 use Rattle.sheet.specs.Literals.{Lit}
 use Rattle.sheet.specs.Reading.{Sheet}
-use Rattle.search.specs.Models.{models, holds, part, contains}
+use Rattle.words.specs.Lists.{any, pick}
 
 -- the list without the entries that stand again later in it
 abbrev pub distinct : List ℕ → List ℕ

@@ -3,11 +3,11 @@ use Prim.Native.Nat.{ℕ, suc, _-_, _^_, _<_}
 use mathlib.Core.Bool.{Bool, true, false, not}
 use mathlib.Core.List.{List, [], _∷_, _++_, map}
 use mathlib.Core.Path.{_≡_}
-use Rattle.words.specs.Lists.{any, all, pick, below}
-use Rattle.words.specs.Positions.{has, setOf, strictlyWithin}
 use Rattle.sheet.specs.Literals.{Lit, pos, neg}
 use Rattle.sheet.specs.Order.{ascending}
 use Rattle.sheet.specs.Reading.{Sheet}
+use Rattle.words.specs.Lists.{any, all, pick, below}
+use Rattle.words.specs.Positions.{has, setOf, strictlyWithin}
 
 -- "it takes a model to be a value for every atom 1 to n": a word below 2 ^ n, in which atom a is position a - 1
 unfoldable pub value : ℕ → ℕ → Bool

@@ -4,8 +4,8 @@ use mathlib.Core.Bool.{Bool, true, false}
 use mathlib.Core.List.{List, [], _∷_, _++_}
 use lib.Dec.{ltb}
 use lib.ListN.{length}
-use Rattle.words.specs.Lists.{any}
 use Rattle.search.specs.Tree.{Tree, Run, on, off, walk}
+use Rattle.words.specs.Lists.{any}
 
 -- What is searched. `above p q`: the part p is better than the part q; without classes, p strictly contains q.
 pub record Game : Type 0 where
@@ -66,23 +66,25 @@ settle places m s (on n) = off (withSteps s n) (Yes m)
 settle places m s (off n spent) = off (withSteps s n) Cut
 settle places m s (off n (found p)) = store places p (withSteps s n)
 
-module _ (g : Game) (allowance places : ℕ) where
+module _ (g : Game) where
   -- a full node of the test of c: "It finds the first full node whose part strictly contains the candidate's, and stops there."
   unfoldable pub meet : ℕ → ℕ → ℕ → Run ℕ Stop
   meet c m n = elim (g .above (g .part m) (g .part c)) [ true ↦ off n (found (g .part m)) | false ↦ on n ]
 
-  -- "Test. A walk of its own from the root."
-  unfoldable pub test : ℕ → ℕ → Run ℕ Stop
-  test c = walk (visit spent allowance) (meet c) (g .rivals c)
+  module _ (allowance : ℕ) where
+    -- "Test. A walk of its own from the root."
+    unfoldable pub test : ℕ → ℕ → Run ℕ Stop
+    test c = walk (visit spent allowance) (meet c) (g .rivals c)
 
-  -- "Each full node is a candidate. If its part lies strictly within a stored part it is passed over. Otherwise a test begins."
-  unfoldable pub judge : ℕ → State → Run State Answer
-  judge m s =
-      elim (any (λ p. g .above p (g .part m)) (s .stored))
-      [ true ↦ on s | false ↦ settle places m (withTest s) (test m (s .steps)) ]
+    module _ (places : ℕ) where
+      -- "Each full node is a candidate. If its part lies strictly within a stored part it is passed over. Otherwise a test begins."
+      unfoldable pub judge : ℕ → State → Run State Answer
+      judge m s =
+          elim (any (λ p. g .above p (g .part m)) (s .stored))
+          [ true ↦ on s | false ↦ settle places m (withTest s) (test m (s .steps)) ]
 
-  unfoldable pub search : Run State Answer
-  search = walk (visitCandidate allowance) judge (g .candidates) start
+      unfoldable pub search : Run State Answer
+      search = walk (visitCandidate allowance) judge (g .candidates) start
 
 -- "The candidate walk ending without a yes gives no."
 abbrev pub answered : Run State Answer → Answer

@@ -1,5 +1,4 @@
 -- A defined walk is the walk of a tree. Quotations are of document 01.
-use Prim.Native.Nat.{ℕ}
 use mathlib.Core.List.{List, [], _∷_, _++_}
 
 -- "closed", "a full node", and "another open node" with its two children; a full node holds what stands there

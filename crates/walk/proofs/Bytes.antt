@@ -5,11 +5,11 @@ use mathlib.Core.Path.{_≡_, refl, sym, ap, _∙_, subst}
 use native.Mathlib.Omega.{arith}
 use lib.Dec.{ltb, lit≤}
 use borrow.Author.Tests.{ltb-true, ltb-false}
-use Rattle.words.specs.Positions.{has}
-use Rattle.sheet.specs.Literals.{Lit, pos, neg, atom, literal, between, isLiteral}
-use Rattle.sheet.proofs.Literals.{between-says, between-holds, literal-low, literal-high, literal-atom, literal-small}
-use Rattle.search.specs.Models.{value, holds}
 use Rattle.search.specs.Grown.{complement}
+use Rattle.search.specs.Models.{value, holds}
+use Rattle.sheet.proofs.Literals.{between-says, between-holds, literal-low, literal-high, literal-atom, literal-small}
+use Rattle.sheet.specs.Literals.{Lit, pos, neg, atom, literal, isLiteral}
+use Rattle.words.specs.Positions.{has}
 
 module _ (b : ℕ) (lit : isLiteral 64 b ≡ true) where
   pub small : b < 256

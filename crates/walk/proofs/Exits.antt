@@ -1,18 +1,17 @@
 -- The walk of a grown tree, as the code leaves it: one law for each way out. Assumes nothing.
 use Prim.Native.Nat.{ℕ, _+_, _≤_, _<_}
-use mathlib.Core.Bool.{Bool, true, false}
+use mathlib.Core.Bool.{true, false}
 use mathlib.Core.List.{List, [], _∷_, _++_, map}
-use mathlib.Core.Path.{_≡_, refl, sym, ap, _∙_}
-use lib.Dec.{ltb}
+use mathlib.Core.Path.{_≡_, sym, ap, _∙_}
 use lib.ListN.{length, drop, drop-of-length-le}
 use borrow.Author.Tests.{lt-ltb, le-ltb}
-use Rattle.words.proofs.Lists.{onward}
+use Rattle.search.specs.Grown.{complement, isClosed, grow}
+use Rattle.search.specs.Search.{State, Cut, withSteps, from, visit, visitCandidate}
+use Rattle.search.specs.Tree.{Tree, closed, full, fork, Run, on, off, then, walk}
 use Rattle.sheet.specs.Layout.{byte}
 use Rattle.sheet.specs.Literals.{Lit, literal}
 use Rattle.sheet.specs.Order.{plains}
-use Rattle.search.specs.Grown.{complement, isClosed, grow}
-use Rattle.search.specs.Search.{State, Answer, Cut, withSteps, from, visit, visitCandidate}
-use Rattle.search.specs.Tree.{Tree, closed, full, fork, Run, on, off, then, walk}
+use Rattle.words.proofs.Lists.{onward}
 
 -- ---- a visit
 

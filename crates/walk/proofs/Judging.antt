@@ -1,34 +1,32 @@
 -- What a candidate does, as the code carries it: the ban of its test, the stored parts, and how the walk goes on. Assumes nothing.
 use Prim.Native.Nat.{ℕ, suc, _+_, _-_, _≤_, _<_}
 use mathlib.Core.Bool.{Bool, true, false, cond, _||_}
-use mathlib.Core.List.{List, [], _∷_, _++_, map, List·Memᴰ as Mem, List·Memᴰ·cases-cons as cases-cons, Memᴰ·of-map as of-map}
+use mathlib.Core.List.{List, [], _∷_, map, List·Memᴰ as Mem, List·Memᴰ·cases-cons as cases-cons, Memᴰ·of-map as of-map}
 use mathlib.Core.Logic.{⊎-elim}
-use mathlib.Core.Path.{_≡_, refl, sym, ap, ap₂, _∙_, subst}
+use mathlib.Core.Path.{_≡_, refl, sym, ap, _∙_, subst}
+use native.Mathlib.Nat.{le-trans}
 use native.Mathlib.Numerals.{add-one}
 use native.Mathlib.Omega.{arith}
-use lib.Dec.{ltb}
 use lib.ListN.{length, getD, take, drop, set}
 use lib.Seq.{drop-drop, drop-length, length-take-le, take-suc, take-suc-set}
-use native.Mathlib.Nat.{le-trans}
 use borrow.Author.Tests.{lt-ltb, le-ltb}
-use Rattle.words.specs.Lists.{any, all, pick}
-use Rattle.words.specs.Positions.{strictlyWithin, setOf}
-use Rattle.words.proofs.Bools.{or-false}
-use Rattle.words.proofs.Lists.{onward}
-use Rattle.words.proofs.Members.{any-append, any-cons, all-out, pick-yes, pick-no, pick-out}
+use Rattle.search.specs.Grown.{complement, game}
+use Rattle.search.specs.Models.{holds, part}
+use Rattle.search.specs.Search.{State, Yes, Cut, NoPlace, spent, found, withSteps, withTest, withPart, store, settle, meet, test, judge}
+use Rattle.search.specs.Tree.{on, off}
 use Rattle.sheet.specs.Answers.{setsOf}
 use Rattle.sheet.specs.Layout.{byte}
 use Rattle.sheet.specs.Literals.{Lit, pos, neg, atom, literal, isLiteral}
 use Rattle.sheet.specs.Order.{plains, negated, branch}
 use Rattle.sheet.specs.Reading.{Sheet}
-use Rattle.search.specs.Grown.{complement, game}
-use Rattle.search.specs.Models.{holds, part}
-use Rattle.search.specs.Search.{State, Answer, Yes, Cut, NoPlace, spent, found, withSteps, withTest, withPart, store, settle, meet, test, judge}
+use Rattle.walk.proofs.Bytes.{in-atoms, complement-placed}
 use Rattle.walk.specs.Carried.{Placed, meetPart, testBelow, Onward}
 use Rattle.walk.specs.declared.candidates.Walked.{Walked}
-use Rattle.walk.proofs.Bytes.{in-atoms, complement-placed}
-use Rattle.search.specs.Tree.{Run, on, off}
-use Rattle.sheet.specs.declared.clauses.Literals.{Literals}
+use Rattle.words.proofs.Bools.{or-false}
+use Rattle.words.proofs.Lists.{onward}
+use Rattle.words.proofs.Members.{any-append, any-cons, all-out, pick-yes, pick-no, pick-out}
+use Rattle.words.specs.Lists.{any, all, pick}
+use Rattle.words.specs.Positions.{strictlyWithin, setOf}
 
 pub complement-twice : (l : Lit) → complement (complement l) ≡ l
 complement-twice (pos a) = refl

@@ -1,23 +1,23 @@
 -- How the code carries the search: its bytes and words for a sheet, its enums and structs for the ends of a walk. No promise to an outside
 -- caller rests on this file; it links the code's own functions.
 use Prim.Native.Nat.{ℕ, _≤_}
-use mathlib.Core.Bool.{Bool, true, false}
+use mathlib.Core.Bool.{true, false}
 use mathlib.Core.List.{List, _++_, map, List·Memᴰ as Mem}
 use mathlib.Core.Path.{_≡_}
 use lib.ListN.{length, take, drop}
-use Rattle.words.specs.Lists.{all}
-use Rattle.sheet.specs.Literals.{Lit, atom, literal, isLiteral}
-use Rattle.sheet.specs.Order.{plains, negated, branch}
-use Rattle.sheet.specs.Reading.{Sheet}
 use Rattle.search.specs.Grown.{unit, grow}
 use Rattle.search.specs.Models.{part, contains}
 use Rattle.search.specs.Search.{State, Answer, Yes, Cut, NoPlace, Stop, spent, found, visit}
 use Rattle.search.specs.Tree.{Run, on, off, walk}
-use Rattle.walk.specs.declared.test.Tried.{Tried}
-use Rattle.walk.specs.declared.test.Tried.the-variants.{Missed, Found, Spent}
-use Rattle.walk.specs.declared.candidates.Ending.{Ending}
+use Rattle.sheet.specs.Literals.{Lit, atom, literal, isLiteral}
+use Rattle.sheet.specs.Order.{plains, negated, branch}
+use Rattle.sheet.specs.Reading.{Sheet}
 use Rattle.walk.specs.declared.candidates.Ending.the-variants.{Going, Affirmed, Exhausted, Full}
+use Rattle.walk.specs.declared.candidates.Ending.{Ending}
 use Rattle.walk.specs.declared.candidates.Walked.{Walked}
+use Rattle.walk.specs.declared.test.Tried.the-variants.{Missed, Found, Spent}
+use Rattle.walk.specs.declared.test.Tried.{Tried}
+use Rattle.words.specs.Lists.{all}
 
 -- atoms that have a place in a word
 abbrev pub Placed : List Lit → Type 0

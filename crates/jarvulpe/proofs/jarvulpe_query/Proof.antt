@@ -1,25 +1,18 @@
 -- `jarvulpe::jarvulpe_query`: what the query leaves, field by field. Assumes nothing.
-use Rattle.jarvulpe.specs.Boundary.{countsOf}
 use borrow.Author.Needs.{needs}
 use Rattle.jarvulpe.proofs.jarvulpe_query.Statement.{statement}
 use Rattle.jarvulpe.proofs.jarvulpe_query.Tie as tie
-use Rattle.jarvulpe.proofs.jarvulpe_query.Reads as reads
-use Rattle.jarvulpe.proofs.jarvulpe_query.Lts as lts
-use Rattle.query.proofs.query.Reads as query-reads
+use Rattle.jarvulpe.specs.Boundary.{countsOf}
 
--- src/lib.rt:40:9
 query-requires : tie.Need-query-requires
 query-requires c κs = search needs
 
--- src/lib.rt:26:1
 same-length : tie.Need-same-length
 same-length c = search needs
 
--- src/lib.rt:26:1
 same-length-2 : tie.Need-same-length-2
 same-length-2 c = search needs
 
--- src/lib.rt:26:1
 returns : tie.Need-returns
 returns c =
     let is = c .before .before .before .before .before .query .ensures .0 in

@@ -1,18 +1,16 @@
+-- `query::finish`: how the walk ended decides the code and the witness. Assumes nothing.
 use Prim.Native.Nat.{ℕ}
 use mathlib.Core.List.{List, []}
 use mathlib.Core.Path.{_≡_, sym, ap, _∙_}
-use Rattle.search.specs.Search.{Answer, answered}
-use Rattle.walk.specs.declared.candidates.Ending.{Ending}
-use Rattle.walk.specs.declared.candidates.Walked.{Walked}
-use Rattle.walk.specs.Carried.{stateOf, endedAs, runOf}
-use Rattle.query.specs.Query.{replyOf, codeOf, witnessed}
-use Rattle.query.specs.declared.Reply.{Reply}
 use borrow.Author.Needs.{needs}
 use Rattle.query.proofs.finish.Statement.{statement}
 use Rattle.query.proofs.finish.Tie as tie
-use Rattle.query.proofs.finish.Reads as reads
-use Rattle.query.proofs.finish.Lts as lts
-use Rattle.query.proofs.write_values.Reads as write-values-reads
+use Rattle.query.specs.Query.{replyOf, codeOf, witnessed}
+use Rattle.query.specs.declared.Reply.{Reply}
+use Rattle.search.specs.Search.{answered}
+use Rattle.walk.specs.Carried.{stateOf, endedAs, runOf}
+use Rattle.walk.specs.declared.candidates.Ending.{Ending}
+use Rattle.walk.specs.declared.candidates.Walked.{Walked}
 
 -- how a walk ended decides the code and the witness
 finished : (w : Walked) (n : ℕ) (before : List ℕ) {e : Ending} → w .ending ≡ e → let a = answered (endedAs e (stateOf w [])) in
@@ -22,48 +20,38 @@ finished w n before is =
     let a = ap (λ (e : Ending). answered (endedAs e (stateOf w []))) (sym is) in
     (λ i. replyOf (codeOf (a i)) (w .steps) (w .tests) (w .stored), λ i. witnessed (a i) n before)
 
--- src/lib.rt:71:26
 enum-known-ending : tie.Need-enum-known-ending
 enum-known-ending c = search needs
 
--- src/lib.rt:72:13
 write-values-requires : tie.Need-write-values-requires
 write-values-requires c κs = search needs
 
--- src/lib.rt:80:26
 enum-told : tie.Need-enum-told
 enum-told c = search needs
 
--- src/lib.rt:86:30
 enum-told-2 : tie.Need-enum-told-2
 enum-told-2 c = search needs
 
--- src/lib.rt:92:25
 enum-told-3 : tie.Need-enum-told-3
 enum-told-3 c = search needs
 
--- src/lib.rt:65:1
 same-length : tie.Need-same-length
 same-length c = search needs
 
--- src/lib.rt:65:1
 returns : tie.Need-returns
 returns c =
     let s = c .before .before .before .before .before .before .before .before .args in
     let f = finished (s .w) (s .n) (s .witness .now) (c .before .before .before .before .before .ending .given .1) in
     (f .0, c .before .before .write-values .ensures ∙ f .1)
 
--- src/lib.rt:65:1
 returns-2 : tie.Need-returns-2
 returns-2 c =
     let s = c .before .before .before .args in finished (s .w) (s .n) (s .witness .now) (c .enum-told .given .1)
 
--- src/lib.rt:65:1
 returns-3 : tie.Need-returns-3
 returns-3 c =
     let s = c .before .before .before .args in finished (s .w) (s .n) (s .witness .now) (c .enum-told2 .given .1)
 
--- src/lib.rt:65:1
 returns-4 : tie.Need-returns-4
 returns-4 c =
     let s = c .before .before .before .args in finished (s .w) (s .n) (s .witness .now) (c .enum-told3 .given .1)

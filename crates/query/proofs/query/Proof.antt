@@ -1,29 +1,23 @@
+-- `query::query`: each return is the result by the row of the table that applies first; the demands follow from it. Assumes nothing.
 use Prim.Native.Nat.{ℕ}
-use mathlib.Core.Bool.{Bool, not}
-use mathlib.Core.List.{List}
+use mathlib.Core.Bool.{not}
 use mathlib.Core.Path.{_≡_, refl, sym, ap, _∙_}
 use native.Mathlib.Omega.{arith}
 use lib.ListN.{length}
+use borrow.Author.Needs.{needs}
 use borrow.Author.Tests.{not-false, lt-ltb, le-ltb}
+use Rattle.query.proofs.Checking.{refused-checked, accepted-checked}
+use Rattle.query.proofs.Promises.{kept}
+use Rattle.query.proofs.query.Statement.{statement}
+use Rattle.query.proofs.query.Tie as tie
+use Rattle.query.specs.Query.{leaves, resultAs, afterWalk, queryOf}
+use Rattle.search.specs.Grown.{game}
+use Rattle.search.specs.Search.{search as searched}
+use Rattle.sheet.proofs.Answered.{Sized, answered-refused, answered-accepted}
+use Rattle.sheet.proofs.Understood.{passed, atoms-are}
 use Rattle.sheet.specs.Layout.{atomCount}
 use Rattle.sheet.specs.Literals.{literal, isLiteral}
 use Rattle.sheet.specs.Reading.{noLiteral, sheetOf, Reading}
-use Rattle.sheet.proofs.Answered.{Sized, answered-refused, answered-accepted}
-use Rattle.sheet.proofs.Understood.{passed, atoms-are}
-use Rattle.search.specs.Grown.{game}
-use Rattle.search.specs.Search.{search as searched}
-use Rattle.query.proofs.Checking.{refused-checked, accepted-checked}
-use Rattle.query.proofs.Promises.{kept}
-use Rattle.query.specs.Query.{leaves, resultAs, afterWalk, queryOf}
-use borrow.Author.Needs.{needs}
-use Rattle.query.proofs.query.Statement.{statement}
-use Rattle.query.proofs.query.Tie as tie
-use Rattle.query.proofs.query.Reads as reads
-use Rattle.query.proofs.query.Lts as lts
-use Rattle.query.proofs.refused.Reads as refused-reads
-use Rattle.query.proofs.run.Reads as run-reads
-use Rattle.sheet.proofs.check.Reads as check-reads
-use Rattle.sheet.proofs.literal.is_literal.Reads as is-literal-reads
 
 -- an accepted sheet, with the counts that its check answers
 sized : (c : tie.After-checked2) → Sized (c .before .before .before .before .before .before .args .sheet .now) (c .checked2 .given .0 .0) (c .checked2 .given .0 .1 .0) (c .checked2 .given .0 .1 .1 .0)
@@ -33,31 +27,24 @@ sized c = answered-accepted _ (sym (c .checked2 .given .1) ∙ c .before .before
 none-asked : (c : tie.After-is-literal) → let a = c .before .before .before .before .before .before .before .before .args in noLiteral (atomCount (a .sheet .now)) (a .question) ≡ not (c .is-literal .result)
 none-asked c = let a = c .before .before .before .before .before .before .before .before .args in ap (λ (n : ℕ). not (isLiteral n (a .question))) (sym (sized (c .before .before) .atoms)) ∙ ap not (sym (c .is-literal .ensures))
 
--- src/lib.rt:145:9
 check-requires : tie.Need-check-requires
 check-requires c κs = search needs
 
--- src/lib.rt:147:26
 enum-known-checked : tie.Need-enum-known-checked
 enum-known-checked c = search needs
 
--- src/lib.rt:147:35
 refused-requires : tie.Need-refused-requires
 refused-requires c κs = search needs
 
--- src/lib.rt:148:27
 enum-known-checked-2 : tie.Need-enum-known-checked-2
 enum-known-checked-2 c = search needs
 
--- src/lib.rt:149:17
 is-literal-requires : tie.Need-is-literal-requires
 is-literal-requires c κs = let p = sized (c .before) in omega (arith, p .atoms, passed _ (p .accepted) .sized .counted .atoms)
 
--- src/lib.rt:150:17
 refused-requires-2 : tie.Need-refused-requires-2
 refused-requires-2 c κs = search needs
 
--- src/lib.rt:150:17
 returns : tie.Need-returns
 unfolding queryOf
 returns c =
@@ -65,15 +52,12 @@ returns c =
     let d = (λ i. leaves (c .refused2 .ensures i) (a .store .now) (a .witness .now)) ∙ ap (λ (v : Reading). resultAs v (a .question) (a .allowance) (a .store .now) (a .witness .now)) (accepted-checked (a .sheet .now) (a .question) (length (a .witness .now)) (sized (c .before .before .before .before) .accepted) (none-asked (c .before .before) ∙ c .before .if1 .taken) refl) in
     (d, kept (a .sheet .now) (a .question) (a .allowance) (a .store .now) (a .witness .now) d)
 
--- src/lib.rt:152:32
 cast-if2 : tie.Need-cast-if2
 cast-if2 c = search needs
 
--- src/lib.rt:153:17
 refused-requires-3 : tie.Need-refused-requires-3
 refused-requires-3 c κs = search needs
 
--- src/lib.rt:153:17
 returns-2 : tie.Need-returns-2
 unfolding queryOf
 returns-2 c =
@@ -81,13 +65,11 @@ returns-2 c =
     let d = (λ i. leaves (c .refused3 .ensures i) (a .store .now) (a .witness .now)) ∙ ap (λ (v : Reading). resultAs v (a .question) (a .allowance) (a .store .now) (a .witness .now)) (accepted-checked (a .sheet .now) (a .question) (length (a .witness .now)) (sized (c .before .before .before .before .before) .accepted) (none-asked (c .before .before .before) ∙ c .before .before .if1 .left) (lt-ltb (length (a .witness .now)) (atomCount (a .sheet .now)) (omega (arith, c .before .if2 .taken, sized (c .before .before .before .before .before) .atoms)))) in
     (d, kept (a .sheet .now) (a .question) (a .allowance) (a .store .now) (a .witness .now) d)
 
--- src/lib.rt:155:13
 run-requires : tie.Need-run-requires
 run-requires c κs =
     let p = sized (c .before .before .before .before .before .before) in
     ((p .accepted, (p .atoms, p .clauses)), (not-false _ (none-asked (c .before .before .before .before) ∙ c .before .before .before .if1 .left), c .before .before .if2 .left))
 
--- src/lib.rt:134:1
 returns-3 : tie.Need-returns-3
 unfolding queryOf
 returns-3 c =
@@ -95,15 +77,12 @@ returns-3 c =
     let d = (λ i. leaves (c .refused .ensures i) (a .store .now) (a .witness .now)) ∙ ap (λ (v : Reading). resultAs v (a .question) (a .allowance) (a .store .now) (a .witness .now)) (sym (refused-checked (a .sheet .now) (a .question) (length (a .witness .now)) (answered-refused (a .sheet .now) (sym (c .before .before .checked .given .1) ∙ c .before .before .before .before .check .ensures)))) in
     (d, kept (a .sheet .now) (a .question) (a .allowance) (a .store .now) (a .witness .now) d)
 
--- src/lib.rt:134:1
 same-length : tie.Need-same-length
 same-length c = search needs
 
--- src/lib.rt:134:1
 same-length-2 : tie.Need-same-length-2
 same-length-2 c = search needs
 
--- src/lib.rt:134:1
 returns-4 : tie.Need-returns-4
 unfolding queryOf
 returns-4 c =

@@ -1,37 +1,37 @@
-use mathlib.Core.List.{List, [], _∷_, _++_, map, List·Memᴰ·eq-of-singleton as eq-of-singleton}
-use Prim.Native.Nat.{_+_, _-_, _≤_}
+-- `walk::candidates::roam`: by the number of literals of the order still to be tried; each return is a case of the walk of the tree below the node. Assumes nothing.
+use Prim.Native.Nat.{_+_, _-_, _≤_, ℕ, _<_}
 use mathlib.Core.Bool.{true, false}
+use mathlib.Core.List.{List, [], _∷_, _++_, map, List·Memᴰ·eq-of-singleton as eq-of-singleton}
 use mathlib.Core.Path.{_≡_, refl, sym, ap, _∙_, subst}
 use native.Mathlib.Omega.{arith}
 use lib.ListN.{length, drop}
 use borrow.Author.Needs.{needs}
-use Rattle.words.proofs.Members.{all-out, mem-at}
-use Rattle.sheet.specs.Layout.{byte}
-use Rattle.sheet.specs.Literals.{Lit, atom, literal, isLiteral}
-use Rattle.sheet.specs.Reading.{Sheet}
-use Rattle.sheet.specs.Answers.{setsOf}
-use Rattle.sheet.specs.declared.clauses.Literals.{Literals}
+use borrow.Fn.Kinds.{In}
+use borrow.Fn.PlainCycle.{Measures, is, falls, and}
 use Rattle.search.specs.Grown.{complement, candidateClauses, game, isClosed, grow}
 use Rattle.search.specs.Search.{State, Answer, withSteps, judge, visitCandidate}
 use Rattle.search.specs.Tree.{Run, on, off, walk}
-use Rattle.walk.specs.declared.candidates.Ending.{Ending}
-use Rattle.walk.specs.Carried.{Placed, Prepared, stateOf, endedAs, runOf, Onward}
+use Rattle.sheet.proofs.clauses.with_literal.Reads as with-literal-reads
+use Rattle.sheet.specs.Answers.{setsOf}
+use Rattle.sheet.specs.Layout.{byte}
+use Rattle.sheet.specs.Literals.{Lit, atom, literal, isLiteral}
+use Rattle.sheet.specs.Reading.{Sheet}
+use Rattle.sheet.specs.declared.clauses.Literals.{Literals}
 use Rattle.walk.proofs.Bytes.{in-atoms, complement-placed}
-use Rattle.walk.proofs.Sets.{sets-snoc, placed-snoc}
 use Rattle.walk.proofs.Exits.{candidate-due, candidate-refused, out-refused, out-closed, out-full, out-first, out-second, order-next, order-end}
 use Rattle.walk.proofs.Judging.{onward-from, onward-trans}
-use Prim.Native.Nat.{ℕ, _<_}
-use borrow.Fn.Kinds.{In}
-use borrow.Fn.PlainCycle.{Measures, is, falls, and}
-use Rattle.walk.proofs.candidates.roam.Reads as roam
-use Rattle.walk.proofs.candidates.roam.Kinds as roam-kinds
+use Rattle.walk.proofs.Sets.{sets-snoc, placed-snoc}
 use Rattle.walk.proofs.candidates.+roam.Lts-roam as roam-lts
-use Rattle.sheet.proofs.clauses.with_literal.Reads as with-literal-reads
+use Rattle.walk.proofs.candidates.+roam.Tie.{close}
+use Rattle.walk.proofs.candidates.+roam.{statement}
 use Rattle.walk.proofs.candidates.judge.Reads as judge-reads
+use Rattle.walk.proofs.candidates.roam.Kinds as roam-kinds
+use Rattle.walk.proofs.candidates.roam.Reads as roam
 use Rattle.walk.proofs.node.closed.Reads as closed-reads
 use Rattle.walk.proofs.node.complement.Reads as complement-reads
-use Rattle.walk.proofs.candidates.+roam.{statement}
-use Rattle.walk.proofs.candidates.+roam.Tie.{close}
+use Rattle.walk.specs.Carried.{Placed, Prepared, stateOf, endedAs, runOf}
+use Rattle.walk.specs.declared.candidates.Ending.{Ending}
+use Rattle.words.proofs.Members.{all-out, mem-at}
 
 abbrev μ-roam : Measures 5 roam-kinds.ps ℕ
 μ-roam κs a = length (a .0 .now) - a .1 .0
@@ -111,7 +111,6 @@ module _ (t : ℕ) (c : roam-lts.After-roam (calls t) (roam-at t) roam.Post) (x 
     goes-on : {u : State} → firstRun ≡ on u → here ≡ below (complement branched) u
     goes-on e = order-left ∙ out-second (visitCandidate _) acts (candidateClauses x q) w due branched left is-open first-walked e
 
--- src/candidates.rt:164:9
 roam-returns : (t : ℕ) → roam-lts.Need-returns (calls t) (roam-at t) roam.Post
 roam-returns t c =
     let s = c .before .before .before .before .before .before .before in (
@@ -119,15 +118,12 @@ roam-returns t c =
       record { sound = record { fewer = s .pre .1 .1 .1 .0 .fewer; room = s .pre .1 .1 .1 .0 .room }; grown = omega arith; rest = refl },
     )
 
--- src/candidates.rt:172:16
 roam-add-t18 : (t : ℕ) → roam-lts.Need-add-t18 (calls t) (roam-at t) roam.Post
 roam-add-t18 t c = omega arith
 
--- src/candidates.rt:177:8
 roam-closed-requires : (t : ℕ) → roam-lts.Need-closed-requires (calls t) (roam-at t) roam.Post
 roam-closed-requires t c κs = c .before .before .before .before .before .before .before .before .pre .1 .0 .even
 
--- src/candidates.rt:178:9
 roam-returns-2 : (t : ℕ) → roam-lts.Need-returns-2 (calls t) (roam-at t) roam.Post
 roam-returns-2 t c =
     let u = c .before in
@@ -138,17 +134,14 @@ roam-returns-2 t c =
       record { sound = record { fewer = omega (arith, s .pre .1 .1 .1 .0 .fewer); room = s .pre .1 .1 .1 .0 .room }; grown = omega arith; rest = refl },
     )
 
--- src/candidates.rt:181:9
 roam-judge-requires : (t : ℕ) → roam-lts.Need-judge-requires (calls t) (roam-at t) roam.Post
 roam-judge-requires t c κs =
     let s = c .before .before .before .before .before .before .before .before .before .before .before .before in
     (s .pre .1 .0, (s .pre .1 .1 .0, (omega (arith, s .pre .1 .1 .1 .0 .fewer), (s .pre .1 .1 .1 .0 .room, refl))))
 
--- src/candidates.rt:181:9
 roam-same-length : (t : ℕ) → roam-lts.Need-same-length (calls t) (roam-at t) roam.Post
 roam-same-length t c = search needs
 
--- src/candidates.rt:181:9
 roam-returns-3 : (t : ℕ) → roam-lts.Need-returns-3 (calls t) (roam-at t) roam.Post
 roam-returns-3 t c =
     let r = c .before .before .judge in
@@ -164,63 +157,49 @@ roam-returns-3 t c =
       onward-from refl (r .ensures .1),
     )
 
--- src/candidates.rt:193:13
 roam-shared-slice-read-l : (t : ℕ) → roam-lts.Need-shared-slice-read-l (calls t) (roam-at t) roam.Post
 roam-shared-slice-read-l t c = omega arith
 
--- src/candidates.rt:196:9
 roam-add-roam : (t : ℕ) → roam-lts.Need-add-roam (calls t) (roam-at t) roam.Post
 roam-add-roam t c = omega (arith, c .before .if3 .left, c .before .before .before .before .before .before .before .before .before .before .before .before .good)
 
--- src/candidates.rt:203:9
 roam-with-literal-requires : (t : ℕ) → roam-lts.Need-with-literal-requires (calls t) (roam-at t) roam.Post
 roam-with-literal-requires t c κs = lit t c
 
--- src/candidates.rt:194:9
 roam-roam-requires : (t : ℕ) → roam-lts.Need-roam-requires (calls t) (roam-at t) roam.Post
 roam-roam-requires t c κs =
     let s = c .before .before .before .before .before .before .before .before .before .before .before .before .before .before in
     (omega (arith, c .before .before .before .if3 .left, s .pre .0), (s .pre .1 .0, (s .pre .1 .1 .0, (record { fewer = omega (arith, s .pre .1 .1 .1 .0 .fewer); room = s .pre .1 .1 .1 .0 .room }, refl))))
 
--- src/candidates.rt:211:13
 roam-enum-told : (t : ℕ) → roam-lts.Need-enum-told (calls t) (roam-at t) roam.Post
 roam-enum-told t c = search needs
 
--- src/candidates.rt:211:13
 roam-add-roam-2 : (t : ℕ) → roam-lts.Need-add-roam-2 (calls t) (roam-at t) roam.Post
 roam-add-roam-2 t c = omega (arith, c .before .before .before .before .before .before .before .before .if3 .left, c .before .before .before .before .before .before .before .before .before .before .before .before .before .before .before .before .before .before .before .good)
 
--- src/candidates.rt:218:32
 roam-complement-requires : (t : ℕ) → roam-lts.Need-complement-requires (calls t) (roam-at t) roam.Post
 roam-complement-requires t c κs = lit t (c .before .before .before .before .before .before .before)
 
--- src/candidates.rt:218:13
 roam-with-literal-requires-2 : (t : ℕ) → roam-lts.Need-with-literal-requires-2 (calls t) (roam-at t) roam.Post
 roam-with-literal-requires-2 t c κs = c .complement .ensures .0
 
--- src/candidates.rt:209:26
 roam-roam-requires-2 : (t : ℕ) → roam-lts.Need-roam-requires-2 (calls t) (roam-at t) roam.Post
 roam-roam-requires-2 t c κs =
     let s = c .before .before .before .before .before .before .before .before .before .before .before .before .before .before .before .before .before .before .before .before .before .before in
     (omega (arith, c .before .before .before .before .before .before .before .before .before .before .before .if3 .left, s .pre .0), (s .pre .1 .0, (s .pre .1 .1 .0, (c .before .before .before .before .before .before .before .roam .ensures .1 .sound, c .before .before .before .enum-told .given .1))))
 
--- src/candidates.rt:222:32
 roam-enum-told-2 : (t : ℕ) → roam-lts.Need-enum-told-2 (calls t) (roam-at t) roam.Post
 roam-enum-told-2 t c = search needs
 
--- src/candidates.rt:223:30
 roam-enum-told-3 : (t : ℕ) → roam-lts.Need-enum-told-3 (calls t) (roam-at t) roam.Post
 roam-enum-told-3 t c = search needs
 
--- src/candidates.rt:224:25
 roam-enum-told-4 : (t : ℕ) → roam-lts.Need-enum-told-4 (calls t) (roam-at t) roam.Post
 roam-enum-told-4 t c = search needs
 
--- src/candidates.rt:145:1
 roam-same-length-2 : (t : ℕ) → roam-lts.Need-same-length-2 (calls t) (roam-at t) roam.Post
 roam-same-length-2 t c = c .before .before .roam2 .kept .1 .1 .1 .1 .1 .1 .1 .1 .1 .1 .0 ∙ c .before .before .before .before .before .before .before .before .before .before .roam .kept .1 .1 .1 .1 .1 .1 .1 .1 .1 .1 .0
 
--- src/candidates.rt:145:1
 roam-returns-4 : (t : ℕ) → roam-lts.Need-returns-4 (calls t) (roam-at t) roam.Post
 roam-returns-4 t c =
     let u = c .before .before .before .before .before .before .before .before .before .before in
@@ -236,11 +215,9 @@ roam-returns-4 t c =
       onward-trans (onward-from refl (u .roam .ensures .1)) (r .ensures .1),
     )
 
--- src/candidates.rt:145:1
 roam-same-length-3 : (t : ℕ) → roam-lts.Need-same-length-3 (calls t) (roam-at t) roam.Post
 roam-same-length-3 t c = c .before .before .before .before .roam .kept .1 .1 .1 .1 .1 .1 .1 .1 .1 .1 .0
 
--- src/candidates.rt:145:1
 roam-returns-5 : (t : ℕ) → roam-lts.Need-returns-5 (calls t) (roam-at t) roam.Post
 roam-returns-5 t c =
     let u = c .before .before .before .before in (
@@ -248,11 +225,9 @@ roam-returns-5 t c =
       onward-from refl (u .roam .ensures .1),
     )
 
--- src/candidates.rt:145:1
 roam-same-length-4 : (t : ℕ) → roam-lts.Need-same-length-4 (calls t) (roam-at t) roam.Post
 roam-same-length-4 t c = c .before .before .before .before .roam .kept .1 .1 .1 .1 .1 .1 .1 .1 .1 .1 .0
 
--- src/candidates.rt:145:1
 roam-returns-6 : (t : ℕ) → roam-lts.Need-returns-6 (calls t) (roam-at t) roam.Post
 roam-returns-6 t c =
     let u = c .before .before .before .before in (
@@ -260,11 +235,9 @@ roam-returns-6 t c =
       onward-from refl (u .roam .ensures .1),
     )
 
--- src/candidates.rt:145:1
 roam-same-length-5 : (t : ℕ) → roam-lts.Need-same-length-5 (calls t) (roam-at t) roam.Post
 roam-same-length-5 t c = c .before .before .before .before .roam .kept .1 .1 .1 .1 .1 .1 .1 .1 .1 .1 .0
 
--- src/candidates.rt:145:1
 roam-returns-7 : (t : ℕ) → roam-lts.Need-returns-7 (calls t) (roam-at t) roam.Post
 roam-returns-7 t c =
     let u = c .before .before .before .before in (

@@ -1,43 +1,35 @@
+-- `walk::candidates::settle`: each return is a case of the definition. Assumes nothing.
 use Prim.Native.Nat.{_+_}
 use mathlib.Core.Path.{refl, sym, ap, _∙_}
 use native.Mathlib.Omega.{arith}
 use lib.ListN.{length, length-set}
 use lib.Seq.{drop-set-lt}
-use Rattle.search.specs.Search.{settle}
-use Rattle.walk.specs.declared.test.Tried.{Tried}
-use Rattle.walk.specs.Carried.{told, stepsOf}
-use Rattle.walk.proofs.Judging.{settle-missed, settle-stored, settle-full, settle-spent}
 use borrow.Author.Needs.{needs}
+use Rattle.search.specs.Search.{settle}
+use Rattle.walk.proofs.Judging.{settle-missed, settle-stored, settle-full, settle-spent}
 use Rattle.walk.proofs.candidates.settle.Statement.{statement}
 use Rattle.walk.proofs.candidates.settle.Tie as tie
-use Rattle.walk.proofs.candidates.settle.Reads as reads
-use Rattle.walk.proofs.candidates.settle.Lts as lts
+use Rattle.walk.specs.Carried.{told, stepsOf}
+use Rattle.walk.specs.declared.test.Tried.{Tried}
 
--- src/candidates.rt:78:23
 enum-known-tried : tie.Need-enum-known-tried
 enum-known-tried c = search needs
 
--- src/candidates.rt:84:22
 enum-known-tried-2 : tie.Need-enum-known-tried-2
 enum-known-tried-2 c = search needs
 
--- src/candidates.rt:86:17
 mul-store : tie.Need-mul-store
 mul-store c = search needs
 
--- src/candidates.rt:86:17
 slice-write-store : tie.Need-slice-write-store
 slice-write-store c = search needs
 
--- src/candidates.rt:90:29
 add-t14 : tie.Need-add-t14
 add-t14 c = search needs
 
--- src/candidates.rt:87:17
 same-length : tie.Need-same-length
 same-length c = search needs
 
--- src/candidates.rt:87:17
 returns : tie.Need-returns
 returns c =
     let s = c .before .before .before .before in
@@ -53,11 +45,9 @@ returns c =
       ),
     )
 
--- src/candidates.rt:101:22
 enum-known-tried-3 : tie.Need-enum-known-tried-3
 enum-known-tried-3 c = search needs
 
--- src/candidates.rt:72:1
 returns-2 : tie.Need-returns-2
 returns-2 c =
     let s = c .before .before .before in
@@ -67,7 +57,6 @@ returns-2 c =
       (record { fewer = omega (arith, s .pre .0, ap stepsOf (is .1)); room = s .pre .1 }, (omega arith, refl)),
     )
 
--- src/candidates.rt:72:1
 returns-3 : tie.Need-returns-3
 returns-3 c =
     let s = c .before .before .before .before in
@@ -77,7 +66,6 @@ returns-3 c =
       (record { fewer = omega (arith, s .pre .0, ap stepsOf (is .1)); room = s .pre .1 }, (omega arith, refl)),
     )
 
--- src/candidates.rt:72:1
 returns-4 : tie.Need-returns-4
 returns-4 c =
     let s = c .before .before .before in

@@ -1,34 +1,34 @@
-use mathlib.Core.List.{List, [], _∷_, _++_, map}
-use Prim.Native.Nat.{_+_, _-_, _≤_}
+-- `walk::test::seek`: by the number of literals of the order still to be tried; each return is a case of the walk of the tree below the node. Assumes nothing.
+use Prim.Native.Nat.{_+_, _-_, ℕ, _<_}
 use mathlib.Core.Bool.{true, false}
+use mathlib.Core.List.{List, [], _∷_, _++_, map}
 use mathlib.Core.Path.{_≡_, sym, ap, _∙_}
 use native.Mathlib.Omega.{arith}
 use lib.ListN.{length, drop}
 use borrow.Author.Needs.{needs}
-use Rattle.words.proofs.Members.{all-out, mem-at}
-use Rattle.sheet.specs.Layout.{byte}
-use Rattle.sheet.specs.Literals.{Lit, literal, isLiteral}
-use Rattle.sheet.specs.Answers.{setsOf}
-use Rattle.sheet.specs.declared.clauses.Literals.{Literals}
+use borrow.Fn.Kinds.{In}
+use borrow.Fn.PlainCycle.{Measures, is, falls, and}
 use Rattle.search.specs.Grown.{complement, unit, isClosed, grow}
 use Rattle.search.specs.Search.{Stop, spent, visit}
 use Rattle.search.specs.Tree.{Run, on, off}
-use Rattle.walk.specs.Carried.{Placed, Clauses, meetPart, testBelow, told, stepsOf}
-use Rattle.walk.proofs.Bytes.{in-atoms, complement-placed}
-use Rattle.walk.proofs.Sets.{sets-snoc, placed-snoc}
-use Rattle.walk.proofs.Exits.{visit-due, visit-refused, out-refused, out-closed, out-full, out-first, out-second, order-next, order-end}
-use Prim.Native.Nat.{ℕ, _<_}
-use borrow.Fn.Kinds.{In}
-use borrow.Fn.PlainCycle.{Measures, is, falls, and}
-use Rattle.walk.proofs.test.seek.Reads as seek
-use Rattle.walk.proofs.test.seek.Kinds as seek-kinds
-use Rattle.walk.proofs.test.+seek.Lts-seek as seek-lts
 use Rattle.sheet.proofs.clauses.with_literal.Reads as with-literal-reads
+use Rattle.sheet.specs.Answers.{setsOf}
+use Rattle.sheet.specs.Layout.{byte}
+use Rattle.sheet.specs.Literals.{Lit, literal, isLiteral}
+use Rattle.sheet.specs.declared.clauses.Literals.{Literals}
+use Rattle.walk.proofs.Bytes.{in-atoms, complement-placed}
+use Rattle.walk.proofs.Exits.{visit-due, visit-refused, out-refused, out-closed, out-full, out-first, out-second, order-next, order-end}
+use Rattle.walk.proofs.Sets.{sets-snoc, placed-snoc}
 use Rattle.walk.proofs.node.closed.Reads as closed-reads
 use Rattle.walk.proofs.node.complement.Reads as complement-reads
-use Rattle.walk.proofs.test.meet.Reads as meet-reads
-use Rattle.walk.proofs.test.+seek.{statement}
+use Rattle.walk.proofs.test.+seek.Lts-seek as seek-lts
 use Rattle.walk.proofs.test.+seek.Tie.{close}
+use Rattle.walk.proofs.test.+seek.{statement}
+use Rattle.walk.proofs.test.meet.Reads as meet-reads
+use Rattle.walk.proofs.test.seek.Kinds as seek-kinds
+use Rattle.walk.proofs.test.seek.Reads as seek
+use Rattle.walk.specs.Carried.{Placed, Clauses, meetPart, testBelow, told, stepsOf}
+use Rattle.words.proofs.Members.{all-out, mem-at}
 
 abbrev μ-seek : Measures 4 seek-kinds.ps ℕ
 μ-seek κs a = length (a .0 .now) - a .1 .0
@@ -85,19 +85,15 @@ module _ (t : ℕ) (c : seek-lts.After-seek (calls t) (seek-at t) seek.Post) (cs
     goes-on : {n : ℕ} → told (c .seek .result) ≡ on n → here ≡ below (complement branched) n
     goes-on e = order-left ∙ out-second (visit spent _) (meetPart _ _) (map unit us ++ cs) w (visit-due spent _ _ (c .before .before .before .before .before .before .if1 .left)) branched _ is-open first-walked e
 
--- src/test.rt:51:9
 seek-returns : (t : ℕ) → seek-lts.Need-returns (calls t) (seek-at t) seek.Post
 seek-returns t c = (λ cs us w are eb pu en pw. sym (out-refused (visit spent _) (meetPart _ _) (grow (map unit us ++ cs) _ w) (visit-refused spent _ _ (c .if1 .taken))), omega arith)
 
--- src/test.rt:53:19
 seek-add-visited : (t : ℕ) → seek-lts.Need-add-visited (calls t) (seek-at t) seek.Post
 seek-add-visited t c = omega arith
 
--- src/test.rt:54:8
 seek-closed-requires : (t : ℕ) → seek-lts.Need-closed-requires (calls t) (seek-at t) seek.Post
 seek-closed-requires t c κs = c .before .before .before .before .before .pre .1 .even
 
--- src/test.rt:55:9
 seek-returns-2 : (t : ℕ) → seek-lts.Need-returns-2 (calls t) (seek-at t) seek.Post
 seek-returns-2 t c =
     let u = c .before in (
@@ -105,11 +101,9 @@ seek-returns-2 t c =
       omega arith,
     )
 
--- src/test.rt:58:9
 seek-meet-requires : (t : ℕ) → seek-lts.Need-meet-requires (calls t) (seek-at t) seek.Post
 seek-meet-requires t c κs = let r = c .before .before .before .before .before .before .before .before .pre .1 in (r .objectives, r .few)
 
--- src/test.rt:58:9
 seek-returns-3 : (t : ℕ) → seek-lts.Need-returns-3 (calls t) (seek-at t) seek.Post
 seek-returns-3 t c =
     let v = c .before .before .before in
@@ -120,51 +114,39 @@ seek-returns-3 t c =
       omega (arith, c .meet .ensures .1),
     )
 
--- src/test.rt:60:13
 seek-shared-slice-read-l : (t : ℕ) → seek-lts.Need-shared-slice-read-l (calls t) (seek-at t) seek.Post
 seek-shared-slice-read-l t c = omega arith
 
--- src/test.rt:63:9
 seek-add-seek : (t : ℕ) → seek-lts.Need-add-seek (calls t) (seek-at t) seek.Post
 seek-add-seek t c = omega arith
 
--- src/test.rt:70:9
 seek-with-literal-requires : (t : ℕ) → seek-lts.Need-with-literal-requires (calls t) (seek-at t) seek.Post
 seek-with-literal-requires t c κs = lit t c
 
--- src/test.rt:61:9
 seek-seek-requires : (t : ℕ) → seek-lts.Need-seek-requires (calls t) (seek-at t) seek.Post
 seek-seek-requires t c κs = (omega (arith, c .before .before .if3 .left, c .before .before .before .before .before .before .before .before .before .before .pre .0), c .before .before .before .before .before .before .before .before .before .before .pre .1)
 
--- src/test.rt:74:23
 seek-enum-known-first : (t : ℕ) → seek-lts.Need-enum-known-first (calls t) (seek-at t) seek.Post
 seek-enum-known-first t c = search needs
 
--- src/test.rt:76:13
 seek-add-seek-2 : (t : ℕ) → seek-lts.Need-add-seek-2 (calls t) (seek-at t) seek.Post
 seek-add-seek-2 t c = omega (arith, c .before .before .before .before .before .before .if3 .left, c .before .before .before .before .before .before .before .before .before .before .before .before .before .before .good)
 
--- src/test.rt:83:32
 seek-complement-requires : (t : ℕ) → seek-lts.Need-complement-requires (calls t) (seek-at t) seek.Post
 seek-complement-requires t c κs = lit t (c .before .before .before .before .before)
 
--- src/test.rt:83:13
 seek-with-literal-requires-2 : (t : ℕ) → seek-lts.Need-with-literal-requires-2 (calls t) (seek-at t) seek.Post
 seek-with-literal-requires-2 t c κs = c .complement .ensures .0
 
--- src/test.rt:74:32
 seek-seek-requires-2 : (t : ℕ) → seek-lts.Need-seek-requires-2 (calls t) (seek-at t) seek.Post
 seek-seek-requires-2 t c κs = (omega (arith, c .before .before .before .before .before .before .before .before .if3 .left, c .before .before .before .before .before .before .before .before .before .before .before .before .before .before .before .before .pre .0), c .before .before .before .before .before .before .before .before .before .before .before .before .before .before .before .before .pre .1)
 
--- src/test.rt:86:31
 seek-enum-told : (t : ℕ) → seek-lts.Need-enum-told (calls t) (seek-at t) seek.Post
 seek-enum-told t c = search needs
 
--- src/test.rt:87:28
 seek-enum-told-2 : (t : ℕ) → seek-lts.Need-enum-told-2 (calls t) (seek-at t) seek.Post
 seek-enum-told-2 t c = search needs
 
--- src/test.rt:35:1
 seek-returns-4 : (t : ℕ) → seek-lts.Need-returns-4 (calls t) (seek-at t) seek.Post
 seek-returns-4 t c =
     let u = c .before .before .before .before .before .before in (
@@ -176,11 +158,9 @@ seek-returns-4 t c =
       omega (arith, u .seek .ensures .1, ap stepsOf (c .before .before .before .before .first .given .1), c .seek2 .ensures .1),
     )
 
--- src/test.rt:35:1
 seek-returns-5 : (t : ℕ) → seek-lts.Need-returns-5 (calls t) (seek-at t) seek.Post
 seek-returns-5 t c = (λ cs us w are eb pu en pw. ended t (c .before .before) cs us w are eb pu en pw (ap told (c .enum-told .given .1)), omega (arith, c .before .before .seek .ensures .1))
 
--- src/test.rt:35:1
 seek-returns-6 : (t : ℕ) → seek-lts.Need-returns-6 (calls t) (seek-at t) seek.Post
 seek-returns-6 t c = (λ cs us w are eb pu en pw. ended t (c .before .before) cs us w are eb pu en pw (ap told (c .enum-told2 .given .1)), omega (arith, c .before .before .seek .ensures .1))
 
