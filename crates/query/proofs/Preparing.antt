@@ -4,7 +4,6 @@ use mathlib.Core.Bool.{true, cond}
 use mathlib.Core.List.{List, [], _∷_, _++_, map, List·Memᴰ as Mem, List·Memᴰ·head as head, List·Memᴰ·tail as tail, Memᴰ·of-map as of-map}
 use mathlib.Core.Path.{_≡_, refl, sym, ap, ap₂, _∙_, subst}
 use native.Mathlib.Omega.{arith}
-use lib.Dec.{lit≤}
 use lib.ListN.{length, take, drop, set, length-map, take-append-drop}
 use lib.Seq.{length-take-le, take-at}
 use Rattle.query.specs.Query.{leaves, replyOf, codeOf, valuesOf, witnessed, placed, afterWalk}
@@ -12,12 +11,13 @@ use Rattle.search.proofs.Sound.{sound}
 use Rattle.search.specs.Models.{value}
 use Rattle.search.specs.Search.{State, answered, ended}
 use Rattle.sheet.proofs.EachOnce.{names-each-once, objectives-literals}
-use Rattle.sheet.proofs.Literals.{between-holds, literal-low, literal-high, literal-atom}
+use Rattle.sheet.proofs.Literals.{literal-low, literal-high}
 use Rattle.sheet.proofs.Understood.{passed, clauses-counted, objective-bytes-counted}
 use Rattle.sheet.specs.Layout.{atomCount, clauseCount, objectiveBytes}
 use Rattle.sheet.specs.Literals.{Lit, pos, neg, atom, literal, isLiteral, byteOf}
 use Rattle.sheet.specs.Order.{plains, negated, branch}
 use Rattle.sheet.specs.Reading.{sheetOf, Accepted}
+use Rattle.walk.proofs.Bytes.{byte-literal}
 use Rattle.walk.specs.Carried.{Placed, Readable, Prepared, stateOf, endedAs, runOf, Sound}
 use Rattle.walk.specs.declared.candidates.Ending.the-variants.{Going, Affirmed, Exhausted, Full}
 use Rattle.walk.specs.declared.candidates.Ending.{Ending}
@@ -44,11 +44,8 @@ module _ (l : Lit) (r : (1 ≤ atom l) × (atom l ≤ 64)) where
       go (pos a) r = omega arith
       go (neg a) r = omega arith
 
-  byte-literal : isLiteral 64 (byteOf l) ≡ true
-  byte-literal =
-      literal-atom 64 (byteOf l) (lit≤ tt) byte-small
-      ∙ let q : (1 ≤ atom (literal (byteOf l))) × (atom (literal (byteOf l)) ≤ 64) = subst (λ (x : Lit). (1 ≤ atom x) × (atom x ≤ 64)) (sym literal-byte) r in
-      between-holds 1 64 (atom (literal (byteOf l))) (q .0) (q .1)
+  is-literal : isLiteral 64 (byteOf l) ≡ true
+  is-literal = byte-literal (byteOf l) byte-small (subst (λ (x : Lit). (1 ≤ atom x) × (atom x ≤ 64)) (sym literal-byte) r)
 
 literals-of-bytes : (ls : List Lit) → Placed ls → map literal (map byteOf ls) ≡ ls
 literals-of-bytes [] is = refl
@@ -95,7 +92,7 @@ module _ (s : List ℕ) (ok : Accepted s) where
         }
       where
         each : (b : ℕ) → Mem b (map byteOf (branch (sheetOf s))) → isLiteral 64 b ≡ true
-        each b h = let u = of-map byteOf (branch (sheetOf s)) h in ap (isLiteral 64) (sym (u .2)) ∙ byte-literal (u .0) (branch-placed (u .0) (u .1))
+        each b h = let u = of-map byteOf (branch (sheetOf s)) h in ap (isLiteral 64) (sym (u .2)) ∙ is-literal (u .0) (branch-placed (u .0) (u .1))
 
 -- ---- the witness
 
