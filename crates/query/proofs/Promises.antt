@@ -1,7 +1,7 @@
 -- The demands, of every query. Assumes nothing.
 use Prim.Native.Nat.{ℕ, _≤_, zero-le}
 use mathlib.Core.List.{List, _++_}
-use mathlib.Core.Path.{_≡_, refl, sym, ap, subst}
+use mathlib.Core.Path.{_≡_, refl, sym, ap, subst, _∙_}
 use native.Mathlib.Omega.{arith}
 use lib.ListN.{length, drop}
 use Rattle.query.proofs.Checking.{refusal-code, past-checks}
@@ -67,7 +67,7 @@ module _ (s : List ℕ) (q allowance : ℕ) (store witness : List ℕ) where
         record { tests = p .bounded .tests; stored = p .bounded .stored; enough = λ h e. p .enough h (code-full (answered run) e) },
       )
 
-  pub kept : {r : Result} → r ≡ queryOf s q allowance store witness → Answers s q (r .reply) witness (r .witness) × Counts s q (length store) (r .reply)
+  kept : {r : Result} → r ≡ queryOf s q allowance store witness → Answers s q (r .reply) witness (r .witness) × Counts s q (length store) (r .reply)
   unfolding Kept queryOf
   kept e = subst Kept (sym e) (go (checked s q (length witness)) refl)
     where
@@ -76,3 +76,9 @@ module _ (s : List ℕ) (q allowance : ℕ) (store witness : List ℕ) where
       go (understood x) h =
           let p = past-checks s q (length witness) h in
           subst (λ (y : Sheet). Kept (resultAs (understood y) q allowance store witness)) (sym (p .is)) (walked-kept (promised-accepted s q (p .accepted) (p .asked) allowance (length store)))
+
+  -- a result that goes by what the checks say is the defined one, and keeps the demands
+  pub as-checked : (v : Reading) {r : Result} → r ≡ resultAs v q allowance store witness → v ≡ checked s q (length witness)
+      → (r ≡ queryOf s q allowance store witness) × (Answers s q (r .reply) witness (r .witness) × Counts s q (length store) (r .reply))
+  unfolding queryOf
+  as-checked v e is = let d = e ∙ ap (λ (x : Reading). resultAs x q allowance store witness) is in (d, kept d)
