@@ -142,8 +142,8 @@ pub fn query(
     witness: &mut [u8],
 ) -> Reply
     ensures defined { λ r. ⌜ leaves r (now (store .exit)) (now (witness .exit)) ≡ queryOf (now (sheet .entry)) question allowance (now (store .entry)) (now (witness .entry)) ⌝ }
-    ensures answers { λ r. ⌜ Answers (now (sheet .entry)) question r (now (witness .entry)) (now (witness .exit)) ⌝ }
-    ensures counts { λ r. ⌜ Counts (now (sheet .entry)) question (length (now (store .entry))) r ⌝ }
+    ensures answers { λ r. ⌜ Answers (now (sheet .entry)) question (r .code) (now (witness .entry)) (now (witness .exit)) ⌝ }
+    ensures counts { λ r. ⌜ Counts (now (sheet .entry)) question (length (now (store .entry))) (r .code) (r .tests) (r .stored) ⌝ }
 {
     let checked = sheet::check(sheet);
     match checked {

@@ -148,7 +148,7 @@ module _ (n b : ℕ) (few : n ≤ 64) (small : b < 256) (lit : isLiteral n b ≡
   pub told-atom : a ≡ atom (literal b)
   told-atom = let t = told in cc
 
-  told-sign : p ≡ plain (literal b)
+  pub told-sign : p ≡ plain (literal b)
   told-sign = let t = told in cc
 
   pub told-literal : literal b ≡ cond p (Lit.pos a) (Lit.neg a)

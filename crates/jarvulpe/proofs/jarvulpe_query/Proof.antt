@@ -15,8 +15,9 @@ same-length-2 c = search needs
 
 returns : tie.Need-returns
 returns c =
-    let is = c .before .before .before .before .before .query .ensures .0 in
-    (λ i. is i .reply .code, (λ i. countsOf (is i .reply), (λ i. is i .store, λ i. is i .witness)))
+    let q = c .before .before .before .before .before .query .ensures in
+    let is = q .0 in
+    (λ i. is i .reply .code, (λ i. countsOf (is i .reply), (λ i. is i .store, (λ i. is i .witness, (q .1 .0, q .1 .1)))))
 
 pub jarvulpe-query-spec : {M : Type 1} → statement M
 jarvulpe-query-spec = tie.close (tie.spec query-requires same-length same-length-2 returns)
