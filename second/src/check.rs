@@ -1,5 +1,6 @@
 //! What a check of the sheet alone answers.
 
+use crate::core;
 use crate::sheet::Sheet;
 use std::fmt;
 
@@ -20,6 +21,12 @@ pub struct CheckAnswer {
 }
 
 impl CheckAnswer {
+    pub fn by_core(bytes: &[u8]) -> CheckAnswer {
+        let mut sizes = UNTOUCHED;
+        let code = core::check(bytes, &mut sizes);
+        CheckAnswer { code, sizes }
+    }
+
     pub fn by_own_reader(bytes: &[u8]) -> CheckAnswer {
         match Sheet::read(bytes) {
             Ok(sheet) => CheckAnswer {

@@ -1,6 +1,7 @@
 //! A query and its whole outcome: code, counts and both buffers.
 
 use crate::code;
+use crate::core::{self, Answering};
 use crate::sheet::{literal, Sheet};
 use crate::walk::walk;
 use std::fmt;
@@ -15,15 +16,19 @@ pub struct Query {
 }
 
 impl Query {
-    /// The checks of document 01 up to the walk.
     pub fn checked(&self) -> Result<(Sheet, i8), u8> {
-        let sheet = Sheet::read(&self.sheet)?;
-        let question = literal(self.question, sheet.n).ok_or(code::QUESTION_BYTE)?;
-        if self.witness_length < sheet.n as usize {
-            return Err(code::SHORT_WITNESS);
-        }
-        Ok((sheet, question))
+        checked(&self.sheet, self.question, self.witness_length)
     }
+}
+
+/// The checks of document 01 up to the walk.
+pub fn checked(sheet: &[u8], question: u8, witness_length: usize) -> Result<(Sheet, i8), u8> {
+    let sheet = Sheet::read(sheet)?;
+    let question = literal(question, sheet.n).ok_or(code::QUESTION_BYTE)?;
+    if witness_length < sheet.n as usize {
+        return Err(code::SHORT_WITNESS);
+    }
+    Ok((sheet, question))
 }
 
 /// Places and bytes on either side of what is lent, where nothing may be written.
@@ -54,6 +59,24 @@ impl Outcome {
                 .map(byte_pattern)
                 .collect(),
         }
+    }
+
+    pub fn by_core(query: &Query) -> Outcome {
+        Outcome::by(core::query, query)
+    }
+
+    /// Only what lies between the guards is lent.
+    pub fn by(answering: Answering, query: &Query) -> Outcome {
+        let mut outcome = Outcome::untouched(query);
+        outcome.code = answering(
+            &query.sheet,
+            query.question,
+            query.allowance,
+            &mut outcome.store[GUARD..][..query.places],
+            &mut outcome.witness[GUARD..][..query.witness_length],
+            &mut outcome.counts,
+        );
+        outcome
     }
 
     pub fn by_own_walk(query: &Query) -> Outcome {

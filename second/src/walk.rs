@@ -41,7 +41,7 @@ pub fn walk(sheet: &Sheet, question: i8, allowance: u64, places: usize) -> Walke
 }
 
 /// One literal for each atom: the atom with the value it has first.
-fn branch_order(sheet: &Sheet) -> Vec<i8> {
+pub(crate) fn branch_order(sheet: &Sheet) -> Vec<i8> {
     let mut order: Vec<i8> = Vec::new();
     for literal in sheet.objectives.iter().copied().chain(1..=sheet.n as i8) {
         if !order.contains(&literal) && !order.contains(&-literal) {
