@@ -2,10 +2,7 @@
 
 use crate::pass::Pass;
 use second::core::{self, Answering};
-use second::quick_query;
 use std::time::Duration;
-
-const SIDES: [Answering; 2] = [core::query, quick_query::query];
 
 /// For all passes of a side over one sheet together.
 const LONG_ENOUGH: Duration = Duration::from_millis(200);
@@ -29,13 +26,14 @@ impl Measured {
 }
 
 /// The sides begin by turns, from round to round and, by its place, from sheet to sheet.
-pub fn measure(sheet: &[u8], place: usize) -> Result<Measured, String> {
+pub fn measure(sheet: &[u8], place: usize, quick: Answering) -> Result<Measured, String> {
+    let sides = [core::query, quick];
     let mut pass = Pass::on(sheet)?;
     let mut times = [Duration::ZERO; 2];
     let mut rounds = 0;
     while times.iter().any(|&time| time < LONG_ENOUGH) {
-        let begins = (place + rounds as usize) % SIDES.len();
-        round(&mut pass, begins, &mut times)?;
+        let begins = (place + rounds as usize) % sides.len();
+        round(&mut pass, sides, begins, &mut times)?;
         rounds += 1;
     }
     Ok(Measured {
@@ -44,11 +42,16 @@ pub fn measure(sheet: &[u8], place: usize) -> Result<Measured, String> {
     })
 }
 
-fn round(pass: &mut Pass, begins: usize, times: &mut [Duration; 2]) -> Result<(), String> {
+fn round(
+    pass: &mut Pass,
+    sides: [Answering; 2],
+    begins: usize,
+    times: &mut [Duration; 2],
+) -> Result<(), String> {
     let follows = 1 - begins;
-    times[begins] += pass.timed(SIDES[begins]);
+    times[begins] += pass.timed(sides[begins]);
     let answers = pass.answers().to_vec();
-    times[follows] += pass.timed(SIDES[follows]);
+    times[follows] += pass.timed(sides[follows]);
     let pairs = answers.iter().zip(pass.answers());
     match pairs.enumerate().find(|(_, (one, other))| one != other) {
         None => Ok(()),

@@ -8,6 +8,7 @@ pub mod code;
 mod compare;
 mod compare_queries;
 pub mod comparison;
+pub mod containment;
 #[allow(unsafe_code)]
 pub mod core;
 mod counts;

@@ -1,11 +1,14 @@
 //! The walk of document 01 on words: the same visits as the plain walk, written to be fast.
 //!
 //! Its method is the core's. Each visit looks at the clauses until one is false, without
-//! tables or propagation, so that the time of a visit can be set beside the core's.
+//! tables or propagation, so that the time of a visit can be set beside the core's. How
+//! parts are compared is the caller's choice.
 
 use crate::code;
+use crate::containment::Containment;
 use crate::sheet::Sheet;
 use crate::walk::branch_order;
+use std::marker::PhantomData;
 use std::ops::ControlFlow::{self, Break, Continue};
 
 #[derive(Clone, Copy, Debug, PartialEq, Eq)]
@@ -19,10 +22,15 @@ pub struct Walked {
     pub witness: Option<u64>,
 }
 
-pub fn walk(sheet: &Sheet, question: i8, allowance: u64, store: &mut [u64]) -> Walked {
+pub fn walk<C: Containment>(
+    sheet: &Sheet,
+    question: i8,
+    allowance: u64,
+    store: &mut [u64],
+) -> Walked {
     let sheet = Words::of(sheet);
     let question = Literals::one(question);
-    let mut walk = Walk {
+    let mut walk = Walk::<C> {
         sheet: &sheet,
         question,
         allowance,
@@ -30,6 +38,7 @@ pub fn walk(sheet: &Sheet, question: i8, allowance: u64, store: &mut [u64]) -> W
         tests: 0,
         stored: 0,
         store,
+        comparing: PhantomData,
     };
     let negation = question.complements();
     let (code, witness) = match walk.below(Literals::NONE, 0, negation, Walk::candidate) {
@@ -157,7 +166,7 @@ enum End {
     StoreFull,
 }
 
-struct Walk<'a> {
+struct Walk<'a, C> {
     sheet: &'a Words,
     question: Literals,
     allowance: u64,
@@ -165,9 +174,10 @@ struct Walk<'a> {
     tests: u64,
     stored: usize,
     store: &'a mut [u64],
+    comparing: PhantomData<C>,
 }
 
-impl Walk<'_> {
+impl<C: Containment> Walk<'_, C> {
     /// Either walk from a node on. A node is also closed if a literal of the ban is true there.
     fn below<T, M>(
         &mut self,
@@ -212,13 +222,13 @@ impl Walk<'_> {
     /// The newest first, as the core looks at them.
     fn lies_within_a_stored_part(&self, part: u64) -> bool {
         let mut newest_first = self.store[..self.stored].iter().rev();
-        newest_first.any(|&stored| strictly_contains(stored, part))
+        newest_first.any(|&stored| C::strictly_contains(stored, part))
     }
 
     /// What a full node of a test does: it is found if its part is above the candidate's.
     fn above(&self, candidate: u64, node: Literals) -> ControlFlow<Stop<u64>> {
         let part = self.sheet.part(node);
-        match strictly_contains(part, candidate) {
+        match C::strictly_contains(part, candidate) {
             true => Break(Stop::Met(part)),
             false => Continue(()),
         }
@@ -232,10 +242,6 @@ impl Walk<'_> {
         self.stored += 1;
         Continue(())
     }
-}
-
-fn strictly_contains(part: u64, other: u64) -> bool {
-    part & other == other && part != other
 }
 
 #[cfg(test)]

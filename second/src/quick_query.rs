@@ -1,10 +1,11 @@
 //! A whole query by the quick walk, with the shape of the core's.
 
+use crate::containment::Containment;
 use crate::query::checked;
 use crate::quick::{walk, Walked};
 
 /// As [`core::query`](crate::core::query).
-pub fn query(
+pub fn query<C: Containment>(
     sheet: &[u8],
     question: u8,
     allowance: u64,
@@ -19,7 +20,7 @@ pub fn query(
             return refusal;
         }
     };
-    let walked = walk(&sheet, question, allowance, store);
+    let walked = walk::<C>(&sheet, question, allowance, store);
     *counts = [walked.steps, walked.tests, walked.stored as u64];
     write_witness(&walked, &mut witness[..sheet.n as usize]);
     walked.code

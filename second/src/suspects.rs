@@ -2,6 +2,7 @@
 //! the core has no part in it.
 
 use crate::code;
+use crate::containment::OnWords;
 use crate::quick::{walk, Walked};
 use crate::sheet::Sheet;
 use std::fmt::Write;
@@ -35,7 +36,7 @@ fn lines_of(sheet: &Sheet) -> String {
     let mut lines = format!("sheet {n} {m} {k}\n");
     let mut store = [0; PLACES];
     for (position, &objective) in (1..).zip(&sheet.objectives) {
-        let walked = walk(sheet, question_on(objective), STEPS, &mut store);
+        let walked = walk::<OnWords>(sheet, question_on(objective), STEPS, &mut store);
         let _ = writeln!(lines, "{position} {objective} {}", answer(&walked));
     }
     lines

@@ -1,6 +1,7 @@
 //! The quick walk beside the plain one, at every kind of bound.
 
 use super::{walk, Walked};
+use crate::containment::{ByPositions, OnWords};
 use crate::queries::{self, document};
 use crate::query::Query;
 use crate::random::Random;
@@ -17,8 +18,6 @@ const UNTOUCHED: u64 = 0xF9C5_A3E1_9B0D_7700;
 /// Gives the code of both.
 fn assert_same_walk(sheet: &Sheet, question: i8, allowance: u64, places: usize) -> u8 {
     let plain = plain_walk(sheet, question, allowance, places);
-    let mut store = vec![UNTOUCHED; places];
-    let quick = walk(sheet, question, allowance, &mut store);
     let expected = Walked {
         code: plain.code,
         steps: plain.steps,
@@ -26,11 +25,15 @@ fn assert_same_walk(sheet: &Sheet, question: i8, allowance: u64, places: usize) 
         stored: plain.stored.len(),
         witness: plain.witness.as_deref().map(true_atoms),
     };
-    assert_eq!(quick, expected, "{sheet:?}, {question}");
     let mut expected_store = plain.stored;
     expected_store.resize(places, UNTOUCHED);
-    assert_eq!(store, expected_store, "{sheet:?}, {question}");
-    quick.code
+    for walk in [walk::<ByPositions>, walk::<OnWords>] {
+        let mut store = vec![UNTOUCHED; places];
+        let quick = walk(sheet, question, allowance, &mut store);
+        assert_eq!(quick, expected, "{sheet:?}, {question}");
+        assert_eq!(store, expected_store, "{sheet:?}, {question}");
+    }
+    plain.code
 }
 
 fn true_atoms(values: &[bool]) -> u64 {
