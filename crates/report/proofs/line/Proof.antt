@@ -1,3 +1,4 @@
+-- `report::line`: the line of an objective that is there, and nothing otherwise. Assumes nothing.
 use Prim.Native.Nat.{ℕ, _≤_, _<_, zero-le}
 use mathlib.Core.Bool.{true}
 use mathlib.Core.Path.{_≡_, sym, ap, subst, _∙_}
@@ -6,22 +7,19 @@ use borrow.Author.Needs.{needs}
 use lib.Dec.{lit≤}
 use lib.ListN.{length, getD, replicate}
 use Rattle.query.specs.Query.{queryOf}
+use Rattle.report.proofs.Meaning.{objective-is-literal}
 use Rattle.report.proofs.Texts.{no-line, a-line}
 use Rattle.report.proofs.line.Statement.{statement}
 use Rattle.report.proofs.line.Tie as tie
 use Rattle.report.specs.Lines.{line, asked, lineCount}
 use Rattle.search.specs.Grown.{complement}
 use Rattle.sheet.proofs.Answered.{Sized, answered-refused, answered-accepted}
-use Rattle.sheet.proofs.EachOnce.{objectives-literals}
 use Rattle.sheet.proofs.Literals.{literal-small, byte-of-literal}
 use Rattle.sheet.proofs.Understood.{passed, objectives-counted, objective-bytes-counted}
 use Rattle.sheet.specs.Layout.{objectiveBytes}
 use Rattle.sheet.specs.Literals.{isLiteral, literal, byteOf}
 use Rattle.sheet.specs.Reading.{read}
 use Rattle.text.proofs.Written.{same-text, nothing-put}
-use Rattle.words.proofs.Members.{all-out, mem-at}
-
--- `report::line`: the line of an objective that is there, and nothing otherwise. Assumes nothing.
 
 sized : (c : tie.After-checked) → let v = c .checked .given .0 in Sized (c .before .before .before .before .args .sheet .now) (v .0) (v .1 .0) (v .1 .1 .0)
 sized c = answered-accepted _ (sym (c .checked .given .1) ∙ c .before .before .check .ensures)
@@ -39,8 +37,7 @@ there c =
 is-literal : (c : tie.After-objectives) → isLiteral 64 (getD (c .objectives .result .now) (c .before .before .before .before .before .before .before .args .i) 0) ≡ true
 is-literal c =
     let s = c .before .before .before .before .before .before .before in
-    let os = objectiveBytes (s .args .sheet .now) in
-    ap (λ l. isLiteral 64 (getD l (s .args .i) 0)) (c .objectives .ensures) ∙ all-out (isLiteral 64) os (objectives-literals _ (sized (c .before .before .before) .accepted)) _ (mem-at 0 os (s .args .i) (there c))
+    ap (λ l. isLiteral 64 (getD l (s .args .i) 0)) (c .objectives .ensures) ∙ objective-is-literal _ (sized (c .before .before .before) .accepted) (s .args .i) (there c)
 
 check-requires : tie.Need-check-requires
 check-requires c κs = search needs

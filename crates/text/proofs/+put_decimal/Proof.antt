@@ -1,3 +1,4 @@
+-- `text::put_decimal`: the last digit goes behind the tenth of the number, which the call of itself has put. Assumes nothing.
 use Prim.Native.Nat.{ℕ, _+_, _/_, _%_, _<_}
 use mathlib.Core.List.{List, []}
 use mathlib.Core.Path.{sym, ap, ap₂, _∙_}
@@ -15,8 +16,6 @@ use Rattle.text.proofs.Written.{nothing-written, byte-behind}
 use Rattle.text.proofs.put_decimal.Kinds as put-decimal-kinds
 use Rattle.text.proofs.put_decimal.Reads as put-decimal
 use Rattle.text.specs.Text.{decimal, written}
-
--- `text::put_decimal`: the last digit goes behind the tenth of the number, which the call of itself has put. Assumes nothing.
 
 abbrev μ-put-decimal : Measures 1 put-decimal-kinds.ps ℕ
 μ-put-decimal κs a = a .0

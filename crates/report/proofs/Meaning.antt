@@ -1,0 +1,95 @@
+-- What a line's yes and no say of the models. Assumes nothing.
+use Prim.Native.Nat.{ℕ, _<_, _+_, _-_}
+use mathlib.Core.Bool.{true, false, not}
+use mathlib.Core.List.{List}
+use mathlib.Core.Logic.{_⊎_, inl, inr}
+use mathlib.Core.Path.{_≡_, refl, sym, ap, subst, _∙_}
+use borrow.Author.Tests.{not-false, le-ltb}
+use lib.Dec.{lit≤}
+use lib.ListN.{length, replicate}
+use Rattle.query.proofs.Checking.{accepted-checked}
+use Rattle.query.proofs.Promises.{as-checked}
+use Rattle.query.specs.Promise.{Answers}
+use Rattle.query.specs.Query.{codeOf, checked, resultAs, queryOf}
+use Rattle.report.specs.Lines.{asked}
+use Rattle.search.proofs.Nodes.{complement-atom, holds-complement, complement-true}
+use Rattle.search.specs.Grown.{complement, game}
+use Rattle.search.specs.Models.{holds, Optimal}
+use Rattle.search.specs.Search.{Answer, Yes, No, Cut, NoPlace, search as searched, answered}
+use Rattle.sheet.proofs.EachOnce.{objective-literal, objectives-literals}
+use Rattle.sheet.proofs.Literals.{literal-atom, byte-of-literal, literal-small}
+use Rattle.sheet.proofs.Understood.{passed}
+use Rattle.sheet.specs.Layout.{atomCount, byte, objectiveBytes}
+use Rattle.sheet.specs.Literals.{Lit, atom, literal, between, isLiteral, byteOf}
+use Rattle.sheet.specs.Reading.{Reading, understood, sheetOf, Accepted}
+use Rattle.walk.proofs.Bytes.{complement-literal, complement-is-literal}
+use Rattle.words.proofs.Bools.{refuted}
+use Rattle.words.proofs.Members.{all-out, mem-at}
+
+abbrev OneOfFour : ℕ → Type 0
+OneOfFour code = ((code ≡ 1) ⊎ (code ≡ 2)) ⊎ ((code ≡ 18) ⊎ (code ≡ 19))
+
+of-walk : (a : Answer) → OneOfFour (codeOf a)
+of-walk (Yes m) = inl (inl refl)
+of-walk No = inl (inr refl)
+of-walk Cut = inr (inl refl)
+of-walk NoPlace = inr (inr refl)
+
+module _ (s : List ℕ) (ok : Accepted s) (i : ℕ) (there : i < length (objectiveBytes s)) where
+  abbrev b : ℕ
+  b = byte (objectiveBytes s) i
+
+  abbrev objective : Lit
+  objective = literal b
+
+  pub objective-is-literal : isLiteral 64 b ≡ true
+  objective-is-literal = all-out (isLiteral 64) (objectiveBytes s) (objectives-literals s ok) _ (mem-at 0 (objectiveBytes s) i there)
+
+  -- the byte that is asked about, and that it stands for the objective's complement
+  small : 255 - b + 1 < 256
+  small = literal-small 64 (255 - b + 1) (lit≤ tt) (complement-is-literal b objective-is-literal)
+
+  asked-byte : byteOf (complement objective) ≡ 255 - b + 1
+  asked-byte = ap byteOf (sym (complement-literal b objective-is-literal)) ∙ byte-of-literal 64 (255 - b + 1) (lit≤ tt) small (complement-is-literal b objective-is-literal)
+
+  question : literal (byteOf (complement objective)) ≡ complement objective
+  question = ap literal asked-byte ∙ complement-literal b objective-is-literal
+
+  answers : (store witness : List ℕ) (allowance : ℕ) → let r = queryOf s (byteOf (complement objective)) allowance store witness in Answers s (byteOf (complement objective)) (r .reply .code) witness (r .witness)
+  unfolding queryOf
+  answers store witness allowance = as-checked s _ allowance store witness (checked s (byteOf (complement objective)) (length witness)) refl refl .1 .0
+
+  -- yes: some optimal model throws the objective out
+  pub suspect : asked s objective .code ≡ 1 → (m : ℕ) × Optimal (sheetOf s) m × (holds m objective ≡ false)
+  unfolding asked
+  suspect e =
+      let y = answers (replicate 1024 0) (replicate 64 0) 1000000 .yes e in
+      (y .0, y .1 .optimal, complement-true (y .0) objective (subst (λ (l : Lit). holds (y .0) l ≡ true) question (y .1 .affirms)))
+
+  -- no: every optimal model keeps it
+  pub kept : asked s objective .code ≡ 2 → (m : ℕ) → Optimal (sheetOf s) m → holds m objective ≡ true
+  unfolding asked
+  kept e m best =
+      let q = literal (byteOf (complement objective)) in
+      not-false (holds m objective)
+      (sym (holds-complement m objective) ∙ sym (ap (holds m) question) ∙ refuted (holds m q) (answers (replicate 1024 0) (replicate 64 0) 1000000 .none e m best))
+
+  -- the question passes the checks
+  asks : isLiteral (atomCount s) (byteOf (complement objective)) ≡ true
+  asks =
+      let n = atomCount s in
+      let few = passed s ok .sized .counted .atoms in
+      let lit = objective-literal s ok b (mem-at 0 (objectiveBytes s) i there) in
+      literal-atom n _ few (subst (λ (q : ℕ). q < 256) (sym asked-byte) small)
+      ∙ ap (between 1 n) (ap atom question ∙ complement-atom objective)
+      ∙ sym (literal-atom n b few (literal-small 64 b (lit≤ tt) objective-is-literal)) ∙ lit
+
+  passes : understood (sheetOf s) ≡ checked s (byteOf (complement objective)) 64
+  passes = accepted-checked s (byteOf (complement objective)) 64 ok (ap not asks) (le-ltb 64 (atomCount s) (passed s ok .sized .counted .atoms))
+
+  -- "`yes`, `no`, or 18 or 19": no other code stands in a line
+  pub one-of-four : OneOfFour (asked s objective .code)
+  unfolding asked queryOf
+  one-of-four =
+      let q = byteOf (complement objective) in
+      subst (λ (v : Reading). OneOfFour (resultAs v q 1000000 (replicate 1024 0) (replicate 64 0) .reply .code)) passes (of-walk (answered (searched (game (sheetOf s) (literal q)) 1000000 1024)))
