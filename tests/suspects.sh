@@ -81,6 +81,16 @@ same_file 'the example in sheets/README.md' tests/expected/A.txt "$work/out"
 same 'the bytes in sheets/README.md' "$(od -An -v -tx1 sheets/A.sheet | tr -d ' \n')" \
     "$(sed -n 's/^    000000[0-9]0  //p' sheets/README.md | tr -d ' \n')"
 
+# The front page: its command, run as it stands, prints what it shows, and its bytes are the sheet's.
+command=$(sed -n '/^## Run$/,/^## /s/^    //p' README.md | head -n 1)
+sh -c "$command" >"$work/out"
+same "README.md: status of '$command'" 0 $?
+same_file "README.md: output of '$command'" tests/expected/A.txt "$work/out"
+sed -n '/^    sheet 3 2 3$/,/^$/s/^    //p' README.md >"$work/out"
+same_file 'the output in README.md' tests/expected/A.txt "$work/out"
+same 'the bytes in README.md' "$(od -An -v -tx1 sheets/A.sheet | tr -d ' \n')" \
+    "$(sed -n 's/^    \(\([0-9a-f]\{2\} \{1,2\}\)\{15,16\}\) .*/\1/p' README.md | tr -d ' \n')"
+
 # Refusals, with one fault each. Most are sheet A or B but for the fault: A is n 3, clauses (-1 -2) (-2 -3), objectives 1 2 3, and B is n 2,
 # clause (-1), objectives 1 2.
 : >"$sheet"
