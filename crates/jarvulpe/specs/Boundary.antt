@@ -1,7 +1,7 @@
 -- What the calls from other languages answer and write.
 use Prim.Native.Nat.{ℕ}
 use mathlib.Core.List.{List, [], _∷_}
-use lib.ListN.{length}
+use lib.ListN.{length, getD}
 use Rattle.query.specs.declared.Reply.{Reply}
 use Rattle.sheet.specs.Reading.{Reading, refused, understood}
 
@@ -18,3 +18,10 @@ sizesOf (understood x) before = x .atoms ∷ length (x .clauses) ∷ length (x .
 -- "the counts (steps, tests, stored)": the three lent words afterwards
 abbrev pub countsOf : Reply → List ℕ
 countsOf r = r .steps ∷ r .tests ∷ r .stored ∷ []
+
+-- the second and the third of those words
+abbrev pub testsIn : List ℕ → ℕ
+testsIn words = getD words 1 0
+
+abbrev pub storedIn : List ℕ → ℕ
+storedIn words = getD words 2 0

@@ -1,10 +1,10 @@
 // The core for programs in other languages. A slice is passed as a pointer and then a length, an array as a pointer.
 ghost use mathlib.Core.Path.{_≡_};
+ghost use lib.ListN.{length};
 ghost use Rattle.sheet.specs.Reading.{read};
-ghost use lib.ListN.{length, getD};
 ghost use Rattle.query.specs.Query.{queryOf};
 ghost use Rattle.query.specs.Promise.{Answers, Counts};
-ghost use Rattle.jarvulpe.specs.Boundary.{codeOf, sizesOf, countsOf};
+ghost use Rattle.jarvulpe.specs.Boundary.{codeOf, sizesOf, countsOf, testsIn, storedIn};
 use query::query;
 use sheet::Checked;
 
@@ -39,7 +39,7 @@ pub extern "C" fn jarvulpe_query(
     ensures store { λ r. ⌜ now (store .exit) ≡ queryOf (now (sheet .entry)) question allowance (now (store .entry)) (now (witness .entry)) .store ⌝ }
     ensures witness { λ r. ⌜ now (witness .exit) ≡ queryOf (now (sheet .entry)) question allowance (now (store .entry)) (now (witness .entry)) .witness ⌝ }
     ensures answers { λ r. ⌜ Answers (now (sheet .entry)) question r (now (witness .entry)) (now (witness .exit)) ⌝ }
-    ensures bounded { λ r. ⌜ Counts (now (sheet .entry)) question (length (now (store .entry))) r (getD (now (counts .exit)) 1 0) (getD (now (counts .exit)) 2 0) ⌝ }
+    ensures bounded { λ r. ⌜ Counts (now (sheet .entry)) question (length (now (store .entry))) r (testsIn (now (counts .exit))) (storedIn (now (counts .exit))) ⌝ }
 {
     let reply = query(sheet, question, allowance, store, witness);
     *counts = [reply.steps, reply.tests, reply.stored as u64];

@@ -35,6 +35,10 @@ of-walk No = inl (inr refl)
 of-walk Cut = inr (inl refl)
 of-walk NoPlace = inr (inr refl)
 
+-- the byte that stands for a literal is the one that is read as it
+pub its-byte : (c : ℕ) {l : Lit} → isLiteral 64 c ≡ true → literal c ≡ l → byteOf l ≡ c
+its-byte c lit is = ap byteOf (sym is) ∙ byte-of-literal c (literal-small 64 c (lit≤ tt) lit)
+
 module _ (s : List ℕ) (ok : Accepted s) (i : ℕ) (there : i < length (objectiveBytes s)) where
   abbrev b : ℕ
   b = byte (objectiveBytes s) i
@@ -46,11 +50,8 @@ module _ (s : List ℕ) (ok : Accepted s) (i : ℕ) (there : i < length (objecti
   objective-is-literal = all-out (isLiteral 64) (objectiveBytes s) (objectives-literals s ok) _ (mem-at 0 (objectiveBytes s) i there)
 
   -- the byte that is asked about, and that it stands for the objective's complement
-  small : 255 - b + 1 < 256
-  small = literal-small 64 (255 - b + 1) (lit≤ tt) (complement-is-literal b objective-is-literal)
-
   asked-byte : byteOf (complement objective) ≡ 255 - b + 1
-  asked-byte = ap byteOf (sym (complement-literal b objective-is-literal)) ∙ byte-of-literal 64 (255 - b + 1) (lit≤ tt) small (complement-is-literal b objective-is-literal)
+  asked-byte = its-byte (255 - b + 1) (complement-is-literal b objective-is-literal) (complement-literal b objective-is-literal)
 
   question : literal (byteOf (complement objective)) ≡ complement objective
   question = ap literal asked-byte ∙ complement-literal b objective-is-literal
@@ -80,7 +81,7 @@ module _ (s : List ℕ) (ok : Accepted s) (i : ℕ) (there : i < length (objecti
       let n = atomCount s in
       let few = passed s ok .sized .counted .atoms in
       let lit = objective-literal s ok b (mem-at 0 (objectiveBytes s) i there) in
-      literal-atom n _ few (subst (λ (q : ℕ). q < 256) (sym asked-byte) small)
+      literal-atom n _ few (subst (λ (q : ℕ). q < 256) (sym asked-byte) (literal-small 64 (255 - b + 1) (lit≤ tt) (complement-is-literal b objective-is-literal)))
       ∙ ap (between 1 n) (ap atom question ∙ complement-atom objective)
       ∙ sym (literal-atom n b few (literal-small 64 b (lit≤ tt) objective-is-literal)) ∙ lit
 

@@ -37,7 +37,8 @@ counts r = field (decimal (r .steps)) ++ field (decimal (r .tests)) ++ field (de
 unfoldable pub line : ℕ → Lit → Reply → List ℕ
 line i l r = decimal (i + 1) ++ field (signedDecimal (not (plain l)) (atom l)) ++ field (answer (r .code)) ++ counts r
 
--- the question that is "its complement"; "Each question has 1,000,000 steps and 1,024 places."
+-- the reply to "its complement"; "Each question has 1,000,000 steps and 1,024 places." Store and witness buffer hold zeros beforehand, and the
+-- buffer has a byte for each of the 64 atoms that a sheet can have.
 unfoldable pub asked : List ℕ → Lit → Reply
 asked s l = queryOf s (byteOf (complement l)) 1000000 (replicate 1024 0) (replicate 64 0) .reply
 
@@ -46,7 +47,7 @@ abbrev pub lineCount : Reading → ℕ
 lineCount (refused c) = 0
 lineCount (understood x) = length (x .objectives)
 
--- "then a line per objective": that of position i, counted from 0; where there is no such objective there is no line
+-- "then a line per objective": that of the literal at position i, counted from 0; where there is no such objective there is no line
 unfoldable pub lineAt : List ℕ → ℕ → List ℕ
 lineAt s i = let l = literal (byte (objectiveBytes s) i) in cond (ltb i (lineCount (read s))) (line i l (asked s l)) []
 

@@ -87,6 +87,15 @@ fn put_sizes(atoms: u64, clauses: u64, objectives: u64, out: &mut [u8]) -> usize
     put(b"\n", k, out)
 }
 
+// The position of an objective, counted from 1.
+fn put_position(i: usize, out: &mut [u8]) -> usize
+    requires { ⌜ (i < 64) × (20 ≤ length (now out)) ⌝ }
+    ensures { λ r. ⌜ Puts (decimal (i + 1)) 0 (now (out .entry)) (now (out .exit)) r ⌝ }
+    ensures { λ r. ⌜ r ≤ 20 ⌝ }
+{
+    put_decimal(i as u64 + 1, 0, out)
+}
+
 // The counts of a reply, to the line's end.
 fn put_counts(reply: Reply, at: usize, out: &mut [u8]) -> usize
     requires { ⌜ at + 64 ≤ length (now out) ⌝ }
@@ -105,7 +114,7 @@ fn put_line(i: usize, b: u8, reply: Reply, out: &mut [u8]) -> usize
     ensures { λ r. ⌜ Puts (lineOf i (literal b) reply) 0 (now (out .entry)) (now (out .exit)) r ⌝ }
     ensures { λ r. ⌜ r ≤ 128 ⌝ }
 {
-    let position = put_decimal(i as u64 + 1, 0, out);
+    let position = put_position(i, out);
     let objective = put_literal(b, position, out);
     let answer = put_answer(reply.code, objective, out);
     put_counts(reply, answer, out)

@@ -64,13 +64,13 @@ module _ (n b : ℕ) (few : n ≤ 64) where
       go true e = let l = ltb-true b 128 e in low-byte l ∙ ap (λ (y : Lit). between 1 n (atom y)) (sym (literal-low b l))
       go false e = let l = ltb-false b 128 e in high-byte l h ∙ ap (λ (y : Lit). between 1 n (atom y)) (sym (literal-high b l h))
 
-  -- the byte of a byte's literal is that byte
-  pub byte-of-literal : b < 256 → isLiteral n b ≡ true → byteOf (literal b) ≡ b
-  byte-of-literal h _ = go (ltb b 128) refl
-    where
-      go : (x : Bool) → ltb b 128 ≡ x → byteOf (literal b) ≡ b
-      go true e = ap byteOf (literal-low b (ltb-true b 128 e))
-      go false e = let l = ltb-false b 128 e in ap byteOf (literal-high b l h) ∙ omega arith
+-- the byte of a byte's literal is that byte
+pub byte-of-literal : (b : ℕ) → b < 256 → byteOf (literal b) ≡ b
+byte-of-literal b h = go (ltb b 128) refl
+  where
+    go : (x : Bool) → ltb b 128 ≡ x → byteOf (literal b) ≡ b
+    go true e = ap byteOf (literal-low b (ltb-true b 128 e))
+    go false e = let l = ltb-false b 128 e in ap byteOf (literal-high b l h) ∙ omega arith
 
 -- ---- the code's tests of a range, of a number r that it has read as x
 

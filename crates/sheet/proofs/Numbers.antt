@@ -141,22 +141,28 @@ module _ (n b : ℕ) {r : Literal} (e : r ≡ literalAnswer n b) where
       go false e = refl
 
 -- what an answer that is a literal says of the byte
+pub record Told (n b : ℕ) (p : Bool) (a : ℕ) : Type 0 where
+  pub sign : p ≡ plain (literal b)
+  pub distance : a ≡ atom (literal b)
+  pub some : 1 ≤ a
+  pub few : a ≤ n
+
 module _ (n b : ℕ) (few : n ≤ 64) (small : b < 256) (lit : isLiteral n b ≡ true) {r : Literal} (e : r ≡ literalAnswer n b) {p : Bool} {a : ℕ} (f : r ≡ Of p a) where
   told : Of p a ≡ Of (plain (literal b)) (atom (literal b))
   told = sym f ∙ e ∙ ap (λ (x : Bool). cond x (Of (plain (literal b)) (atom (literal b))) Neither) lit
 
-  pub told-atom : a ≡ atom (literal b)
+  told-atom : a ≡ atom (literal b)
   told-atom = let t = told in cc
 
-  pub told-sign : p ≡ plain (literal b)
-  told-sign = let t = told in cc
+  pub told-of : Told n b p a
+  told-of =
+      let range = between-says 1 n a (ap (between 1 n) told-atom ∙ sym (literal-atom n b few small) ∙ lit) in
+      record { sign = (let t = told in cc); distance = told-atom; some = range .0; few = range .1 }
 
-  pub told-literal : literal b ≡ cond p (Lit.pos a) (Lit.neg a)
-  told-literal = by-parts (literal b) told-sign told-atom
-    where
-      by-parts : (l : Lit) {p : Bool} {a : ℕ} → p ≡ plain l → a ≡ atom l → l ≡ cond p (Lit.pos a) (Lit.neg a)
-      by-parts (Lit.pos k) ep ea = sym (λ i. cond (ep i) (Lit.pos (ea i)) (Lit.neg (ea i)))
-      by-parts (Lit.neg k) ep ea = sym (λ i. cond (ep i) (Lit.pos (ea i)) (Lit.neg (ea i)))
-
-  pub told-range : (1 ≤ a) × (a ≤ n)
-  told-range = between-says 1 n a (ap (between 1 n) told-atom ∙ sym (literal-atom n b few small) ∙ lit)
+-- the literal by its sign and its atom
+pub told-literal : {n b : ℕ} {p : Bool} {a : ℕ} → Told n b p a → literal b ≡ cond p (Lit.pos a) (Lit.neg a)
+told-literal {b} t = by-parts (literal b) (t .sign) (t .distance)
+  where
+    by-parts : (l : Lit) {p : Bool} {a : ℕ} → p ≡ plain l → a ≡ atom l → l ≡ cond p (Lit.pos a) (Lit.neg a)
+    by-parts (Lit.pos k) ep ea = sym (λ i. cond (ep i) (Lit.pos (ea i)) (Lit.neg (ea i)))
+    by-parts (Lit.neg k) ep ea = sym (λ i. cond (ep i) (Lit.pos (ea i)) (Lit.neg (ea i)))

@@ -3,10 +3,9 @@ use Prim.Native.Nat.{ℕ, suc, _+_, _≤_, _<_}
 use mathlib.Core.List.{List, [], _∷_, _++_, append-nil, append-assoc}
 use mathlib.Core.Path.{_≡_, sym, ap, ap₂, _∙_}
 use native.Mathlib.Nat.{add-zero, add-assoc}
-use native.Mathlib.Numerals.{add-one}
 use native.Mathlib.Omega.{arith}
-use lib.ListN.{length, take, drop, set, getD, length-append, length-drop, take-append-drop}
-use lib.Seq.{length-take-le, drop-cons, set-at, take-at, append-snoc, take-suc, drop-append-add, drop-drop}
+use lib.ListN.{length, take, drop, set, getD, length-append, take-append-drop}
+use lib.Seq.{length-take-le, drop-cons, set-at, take-at, append-snoc, drop-append-add, drop-drop}
 use Rattle.text.specs.Text.{written, Puts}
 
 pub nothing-written : (at : ℕ) (b : List ℕ) → written [] at b ≡ b
@@ -17,12 +16,6 @@ module _ (t : List ℕ) (at : ℕ) (b : List ℕ) where
   -- how far the text reaches
   length-front : at ≤ length b → length (take at b ++ t) ≡ at + length t
   length-front h = length-append (take at b) t ∙ ap (λ (k : ℕ). k + length t) (length-take-le at b h)
-
-  pub length-written : at + length t ≤ length b → length (written t at b) ≡ length b
-  unfolding written
-  length-written h =
-      let front = length-front (omega (arith, h)) in
-      length-append (take at b ++ t) (drop (at + length t) b) ∙ omega (arith, front, length-drop (at + length t) b, h)
 
   pub byte-behind : (v : ℕ) → at + length t < length b → set (written t at b) (at + length t) v ≡ written (t ++ (v ∷ [])) at b
   unfolding written
@@ -46,16 +39,6 @@ module _ (t : List ℕ) (at : ℕ) (b : List ℕ) where
       ap₂ (λ (x y : List ℕ). (x ++ u) ++ y) (take-at (take at b ++ t) rest n front) past
       ∙ ap₂ (λ (l : List ℕ) (k : ℕ). l ++ drop k b) (append-assoc (take at b) t u) end
 
--- one byte more of a text of which the first i bytes are there
-pub next-byte : (text : List ℕ) (at : ℕ) (b : List ℕ) (i : ℕ) → i < length text → at + length text ≤ length b
-    → set (written (take i text) at b) (at + i) (getD text i 0) ≡ written (take (i + 1) text) at b
-next-byte text at b i h room =
-    let there = length-take-le i text (omega (arith, h)) in
-    ap (λ (k : ℕ). set (written (take i text) at b) (at + k) (getD text i 0)) (sym there)
-    ∙ byte-behind (take i text) at b (getD text i 0) (omega (arith, there, h, room))
-    ∙ ap (λ (t : List ℕ). written t at b) (sym (take-suc text i 0 h))
-    ∙ ap (λ (k : ℕ). written (take k text) at b) (sym (add-one i))
-
 -- a text put behind another
 pub put-behind : {t u : List ℕ} {at : ℕ} {b b′ b″ : List ℕ} {e e′ : ℕ} → at ≤ length b → Puts t at b b′ e → Puts u e b′ b″ e′ → Puts (t ++ u) at b b″ e′
 put-behind {t} {u} {at} {b} h p q = record {
@@ -69,3 +52,10 @@ same-text {at} {b} same p = record { ends = p .ends ∙ ap (λ (t : List ℕ). a
 -- nothing put is a text put
 pub nothing-put : (at : ℕ) (b : List ℕ) → Puts [] at b b at
 nothing-put at b = record { ends = sym (add-zero at); holds = sym (nothing-written at b) }
+
+-- a byte put behind a text
+pub byte-put : {t : List ℕ} {at : ℕ} {b b′ : List ℕ} {e e′ : ℕ} (v : ℕ) → e < length b → e′ ≡ e + 1 → Puts t at b b′ e → Puts (t ++ (v ∷ [])) at b (set b′ e v) e′
+byte-put {t} {at} {b} v room next p = record {
+  ends = omega (arith, next, p .ends, length-append t (v ∷ []));
+  holds = ap₂ (λ (o : List ℕ) (k : ℕ). set o k v) (p .holds) (p .ends) ∙ byte-behind t at b v (omega (arith, p .ends, room));
+}

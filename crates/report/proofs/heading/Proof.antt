@@ -33,22 +33,23 @@ put-sizes-requires c κs = search needs
 
 returns : tie.Need-returns
 returns c =
-    let e = answered-refused (c .before .before .before .before .before .before .before .args .sheet .now) (sym (c .before .before .before .checked .given .1) ∙ c .before .before .before .before .before .check .ensures) in
+    let s = c .before .before .before .before .before .before .before in
+    let e = answered-refused (s .args .sheet .now) (sym (c .before .before .before .checked .given .1) ∙ c .before .before .before .before .before .check .ensures) in
     let p = c .put-refusal .ensures in
-    let room : 128 ≤ length (c .before .before .before .before .before .before .before .args .out .now) = search needs in
+    let room : 128 ≤ length (s .args .out .now) = search needs in
     (same-text (ap headingOf (sym e)) (p .0), (ap lineCount (sym e), omega (arith, p .1, c .put-refusal .kept .1 .0, room)))
 
 returns-2 : tie.Need-returns-2
 returns-2 c =
-    let s = c .before .before .before .before .before .before .before .args .sheet .now in
-    let z = answered-accepted s (sym (c .before .before .before .checked2 .given .1) ∙ c .before .before .before .before .before .check .ensures) in
-    let few = passed s (z .accepted) .sized in
-    let atoms = z .atoms ∙ sym (atoms-are s) in
-    let clauses = z .clauses ∙ sym (clauses-counted s) in
-    let objectives = z .objectives ∙ sym (objectives-counted s few) in
+    let s = c .before .before .before .before .before .before .before in
+    let sheet = s .args .sheet .now in
+    let z = answered-accepted sheet (sym (c .before .before .before .checked2 .given .1) ∙ c .before .before .before .before .before .check .ensures) in
+    let atoms = z .atoms ∙ sym (atoms-are sheet) in
+    let clauses = z .clauses ∙ sym (clauses-counted sheet) in
+    let objectives = z .objectives ∙ sym (objectives-counted sheet (passed sheet (z .accepted) .sized)) in
     let e = sym (z .accepted) in
     let p = c .put-sizes .ensures in
-    let room : 128 ≤ length (c .before .before .before .before .before .before .before .args .out .now) = search needs in (
+    let room : 128 ≤ length (s .args .out .now) = search needs in (
       same-text ((λ i. letters "sheet" ++ field (decimal (atoms i)) ++ field (decimal (clauses i)) ++ field (decimal (objectives i)) ++ newline) ∙ ap headingOf e) (p .0),
       (objectives ∙ ap lineCount e, omega (arith, p .1, c .put-sizes .kept .1 .1 .1 .0, room)),
     )

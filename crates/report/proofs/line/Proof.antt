@@ -4,20 +4,18 @@ use mathlib.Core.Bool.{true}
 use mathlib.Core.Path.{_≡_, sym, ap, subst, _∙_}
 use native.Mathlib.Omega.{arith}
 use borrow.Author.Needs.{needs}
-use lib.Dec.{lit≤}
 use lib.ListN.{length, getD, replicate}
 use Rattle.query.specs.Query.{queryOf}
-use Rattle.report.proofs.Meaning.{objective-is-literal}
+use Rattle.report.proofs.Meaning.{its-byte, objective-is-literal}
 use Rattle.report.proofs.Texts.{no-line, a-line}
 use Rattle.report.proofs.line.Statement.{statement}
 use Rattle.report.proofs.line.Tie as tie
 use Rattle.report.specs.Lines.{line, asked, lineCount}
 use Rattle.search.specs.Grown.{complement}
 use Rattle.sheet.proofs.Answered.{Sized, answered-refused, answered-accepted}
-use Rattle.sheet.proofs.Literals.{literal-small, byte-of-literal}
 use Rattle.sheet.proofs.Understood.{passed, objectives-counted, objective-bytes-counted}
 use Rattle.sheet.specs.Layout.{objectiveBytes}
-use Rattle.sheet.specs.Literals.{isLiteral, literal, byteOf}
+use Rattle.sheet.specs.Literals.{isLiteral, literal}
 use Rattle.sheet.specs.Reading.{read}
 use Rattle.text.proofs.Written.{same-text, nothing-put}
 
@@ -94,10 +92,7 @@ returns-3 c =
     let i = s .args .i in
     let the = c .before .before .before .before .before .before .before .complement in
     let byteThere = ap (λ l. getD l i 0) (o .objectives .ensures) in
-    let question =
-    sym (byte-of-literal 64 (the .result) (lit≤ tt) (literal-small 64 (the .result) (lit≤ tt) (the .ensures .0)) (the .ensures .0))
-    ∙ ap byteOf (the .ensures .1) ∙ ap (λ (k : ℕ). byteOf (complement (literal k))) byteThere
-    in
+    let question = sym (its-byte (the .result) (the .ensures .0) (the .ensures .1 ∙ ap (λ (k : ℕ). complement (literal k)) byteThere)) in
     let replied = (λ j. c .before .before .before .before .query .ensures .0 j .reply) ∙ ap (λ (q : ℕ). queryOf sheet q 1000000 (replicate 1024 0) (replicate 64 0) .reply) question in
     let room : 128 ≤ length (s .args .out .now) = search needs in
     let counted : i < lineCount (read sheet) = omega (arith, o .before .if1 .left, lines (o .before .before .before)) in

@@ -1,33 +1,27 @@
 -- `report::put_literal`: the sign and the atom are those of the literal that the byte stands for. Assumes nothing.
 use Prim.Native.Nat.{_≤_}
 use mathlib.Core.Bool.{not, false≢true}
-use mathlib.Core.Path.{_≡_, _∙_}
+use mathlib.Core.Path.{_∙_}
 use native.Mathlib.Omega.{arith}
 use borrow.Author.Needs.{needs}
 use lib.Dec.{lit≤}
+use lib.ListN.{length}
 use Rattle.report.proofs.put_literal.Statement.{statement}
 use Rattle.report.proofs.put_literal.Tie as tie
 use Rattle.report.specs.Lines.{field}
-use Rattle.sheet.proofs.Numbers.{answered-neither, told-atom, told-sign, told-range}
-use Rattle.sheet.specs.Literals.{atom, plain, literal}
+use Rattle.sheet.proofs.Numbers.{answered-neither, Told, told-of}
+use Rattle.sheet.specs.Literals.{plain}
 use Rattle.text.proofs.Decimals.{signed-digits}
 use Rattle.text.proofs.Written.{put-behind, same-text}
 use Rattle.text.specs.Text.{signedDecimal}
 
-in-atoms : (c : tie.After-plain) → (1 ≤ c .plain .given .0 .1 .0) × (c .plain .given .0 .1 .0 ≤ 64)
-in-atoms c =
+told : (c : tie.After-plain) → Told 64 (c .before .before .before .before .args .b) (c .plain .given .0 .0) (c .plain .given .0 .1 .0)
+told c =
     let s = c .before .before .before .before in
-    told-range 64 (s .args .b) (lit≤ tt) (s .fits .b .fits) (s .pre .0) (c .before .before .literal-of .ensures) (c .plain .given .1)
+    told-of 64 (s .args .b) (lit≤ tt) (s .fits .b .fits) (s .pre .0) (c .before .before .literal-of .ensures) (c .plain .given .1)
 
-is-plain : (c : tie.After-plain) → c .plain .given .0 .0 ≡ plain (literal (c .before .before .before .before .args .b))
-is-plain c =
-    let s = c .before .before .before .before in
-    told-sign 64 (s .args .b) (lit≤ tt) (s .fits .b .fits) (s .pre .0) (c .before .before .literal-of .ensures) (c .plain .given .1)
-
-is-atom : (c : tie.After-plain) → c .plain .given .0 .1 .0 ≡ atom (literal (c .before .before .before .before .args .b))
-is-atom c =
-    let s = c .before .before .before .before in
-    told-atom 64 (s .args .b) (lit≤ tt) (s .fits .b .fits) (s .pre .0) (c .before .before .literal-of .ensures) (c .plain .given .1)
+short : (c : tie.After-plain) → length (signedDecimal (not (c .plain .given .0 .0)) (c .plain .given .0 .1 .0)) ≤ 21
+short c = signed-digits _ _ (omega (arith, told c .few))
 
 literal-of-requires : tie.Need-literal-of-requires
 literal-of-requires c κs = search needs
@@ -46,11 +40,8 @@ put-requires c κs = search needs
 
 put-signed-requires : tie.Need-put-signed-requires
 put-signed-requires c κs =
-    let s = c .before .before .before .before .before .before .before .before .before .before .before in
     let p = c .before .before .before .put in
-    let told = c .before .before .before .before .before .before .before in
-    let small = (in-atoms told) .1 in
-    omega (arith, s .pre .1, p .ensures .ends, p .kept .1 .1 .0, signed-digits (not (told .plain .given .0 .0)) (told .plain .given .0 .1 .0) (omega (arith, small)))
+    omega (arith, c .before .before .before .before .before .before .before .before .before .before .before .pre .1, p .ensures .ends, p .kept .1 .1 .0, short (c .before .before .before .before .before .before .before))
 
 enum-told : tie.Need-enum-told
 enum-told c = search needs
@@ -60,13 +51,11 @@ same-length c = search needs
 
 returns : tie.Need-returns
 returns c =
-    let s = c .before .before .before .before .before .before .before .before .before .before .before .before .before .before in
-    let told = c .before .before .before .before .before .before .before .before .before .before in
-    let small = (in-atoms told) .1 in
+    let a = c .before .before .before .before .before .before .before .before .before .before in
     let p = c .before .before .before .before .before .before .put .ensures in
     let d = c .before .before .put-signed .ensures in (
-      same-text (λ i. field (signedDecimal (not (is-plain told i)) (is-atom told i))) (put-behind (omega (arith, s .pre .1)) p d),
-      omega (arith, p .ends, d .ends, signed-digits (not (told .plain .given .0 .0)) (told .plain .given .0 .1 .0) (omega (arith, small))),
+      same-text (λ i. field (signedDecimal (not (told a .sign i)) (told a .distance i))) (put-behind (omega (arith, c .before .before .before .before .before .before .before .before .before .before .before .before .before .before .pre .1)) p d),
+      omega (arith, p .ends, d .ends, short a),
     )
 
 returns-2 : tie.Need-returns-2

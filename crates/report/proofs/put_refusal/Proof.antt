@@ -26,9 +26,10 @@ same-length c = search needs
 
 returns : tie.Need-returns
 returns c =
+    let word = c .before .before .before .before .before .before .before .before .before .before .put .ensures in
     let number = c .before .before .before .before .before .before .put-number .ensures in
     let end = c .before .before .put2 .ensures in
-    (put-behind zero-le (put-behind zero-le (c .before .before .before .before .before .before .before .before .before .before .put .ensures) (number .0)) end, omega (arith, end .ends, number .1, c .before .before .before .before .before .before .before .before .before .before .put .ensures .ends))
+    (put-behind zero-le (put-behind zero-le word (number .0)) end, omega (arith, word .ends, number .1, end .ends))
 
 pub put-refusal-spec : {M : Type 1} → statement M
 put-refusal-spec =

@@ -1,28 +1,24 @@
 -- `sheet::clauses::with_literal`: the atom goes into the set of the literal's sign. Assumes nothing.
-use Prim.Native.Nat.{_≤_}
 use mathlib.Core.Bool.{Bool, cond, false≢true}
 use mathlib.Core.List.{_∷_}
 use mathlib.Core.Path.{_≡_, sym, ap, _∙_}
 use native.Mathlib.Omega.{arith}
-use lib.Dec.{lit≤}
 use borrow.Author.Needs.{needs}
+use lib.Dec.{lit≤}
 use Rattle.sheet.proofs.ClauseLaws.{with-plain, with-negated}
-use Rattle.sheet.proofs.Numbers.{answered-neither, told-literal, told-range}
+use Rattle.sheet.proofs.Numbers.{answered-neither, Told, told-of, told-literal}
 use Rattle.sheet.proofs.clauses.with_literal.Statement.{statement}
 use Rattle.sheet.proofs.clauses.with_literal.Tie as tie
 use Rattle.sheet.specs.Answers.{setsOf}
 use Rattle.sheet.specs.Literals.{Lit, pos, neg, literal}
 
-in-atoms : (c : tie.After-plain) → (1 ≤ c .plain .given .0 .1 .0) × (c .plain .given .0 .1 .0 ≤ 64)
-in-atoms c =
+told : (c : tie.After-plain) → Told 64 (c .before .before .before .args .b) (c .plain .given .0 .0) (c .plain .given .0 .1 .0)
+told c =
     let u = c .before .before .before in
-    told-range 64 (u .args .b) (lit≤ tt) (u .fits .b .fits) (u .pre) (c .before .before .literal-of .ensures) (c .plain .given .1)
+    told-of 64 (u .args .b) (lit≤ tt) (u .fits .b .fits) (u .pre) (c .before .before .literal-of .ensures) (c .plain .given .1)
 
 as-literal : (c : tie.After-plain) {p : Bool} → c .plain .given .0 .0 ≡ p → literal (c .before .before .before .args .b) ≡ cond p (pos (c .plain .given .0 .1 .0)) (neg (c .plain .given .0 .1 .0))
-as-literal c h =
-    let u = c .before .before .before in
-    told-literal 64 (u .args .b) (lit≤ tt) (u .fits .b .fits) (u .pre) (c .before .before .literal-of .ensures) (c .plain .given .1)
-    ∙ ap (λ (x : Bool). cond x (pos (c .plain .given .0 .1 .0)) (neg (c .plain .given .0 .1 .0))) h
+as-literal c h = told-literal (told c) ∙ ap (λ (x : Bool). cond x (pos (c .plain .given .0 .1 .0)) (neg (c .plain .given .0 .1 .0))) h
 
 literal-of-requires : tie.Need-literal-of-requires
 literal-of-requires c κs = search needs
@@ -31,10 +27,10 @@ enum-known-plain : tie.Need-enum-known-plain
 enum-known-plain c = search needs
 
 sub-adding : tie.Need-sub-adding
-sub-adding c = in-atoms (c .before .before) .0
+sub-adding c = told (c .before .before) .some
 
 adding-requires : tie.Need-adding-requires
-adding-requires c κs = let r = in-atoms (c .before .before) in omega arith
+adding-requires c κs = let r = told (c .before .before) in omega (arith, r .some, r .few)
 
 returns : tie.Need-returns
 returns c =
@@ -42,10 +38,10 @@ returns c =
     ∙ ap (λ (l : Lit). setsOf (l ∷ ls)) (sym (as-literal (c .before .before .before) (c .before .if1 .taken)))
 
 sub-adding-2 : tie.Need-sub-adding-2
-sub-adding-2 c = in-atoms (c .before .before) .0
+sub-adding-2 c = told (c .before .before) .some
 
 adding-requires-2 : tie.Need-adding-requires-2
-adding-requires-2 c κs = let r = in-atoms (c .before .before) in omega arith
+adding-requires-2 c κs = let r = told (c .before .before) in omega (arith, r .some, r .few)
 
 enum-told : tie.Need-enum-told
 enum-told c = search needs

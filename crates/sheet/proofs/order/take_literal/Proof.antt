@@ -3,36 +3,31 @@ use Prim.Native.Nat.{ℕ, _-_, _≤_}
 use mathlib.Core.Bool.{Bool, false≢true}
 use mathlib.Core.Path.{_≡_, sym, ap, _∙_, subst}
 use native.Mathlib.Omega.{arith}
-use lib.Dec.{lit≤}
 use borrow.Author.Needs.{needs}
+use lib.Dec.{lit≤}
 use Rattle.sheet.proofs.BranchLaws.{keeps, puts}
 use Rattle.sheet.proofs.Literals.{byte-of-literal}
-use Rattle.sheet.proofs.Numbers.{answered-neither, told-atom, told-range}
+use Rattle.sheet.proofs.Numbers.{answered-neither, Told, told-of}
 use Rattle.sheet.proofs.order.take_literal.Statement.{statement}
 use Rattle.sheet.proofs.order.take_literal.Tie as tie
 use Rattle.sheet.specs.Literals.{atom, literal, byteOf}
 use Rattle.words.specs.Positions.{has, adding}
 
-in-atoms : (c : tie.After-atom) → (1 ≤ c .atom .given .0 .1 .0) × (c .atom .given .0 .1 .0 ≤ 64)
-in-atoms c =
+told : (c : tie.After-atom) → Told 64 (c .before .before .before .before .args .b) (c .atom .given .0 .0) (c .atom .given .0 .1 .0)
+told c =
     let u = c .before .before .before .before in
-    told-range 64 (u .args .b) (lit≤ tt) (u .fits .b .fits) (u .pre .0) (c .before .before .literal-of .ensures) (c .atom .given .1)
-
-is-atom : (c : tie.After-atom) → c .atom .given .0 .1 .0 ≡ atom (literal (c .before .before .before .before .args .b))
-is-atom c =
-    let u = c .before .before .before .before in
-    told-atom 64 (u .args .b) (lit≤ tt) (u .fits .b .fits) (u .pre .0) (c .before .before .literal-of .ensures) (c .atom .given .1)
+    told-of 64 (u .args .b) (lit≤ tt) (u .fits .b .fits) (u .pre .0) (c .before .before .literal-of .ensures) (c .atom .given .1)
 
 some : (c : tie.After-atom) → 1 ≤ atom (literal (c .before .before .before .before .args .b))
-some c = subst (λ (a : ℕ). 1 ≤ a) (is-atom c) (in-atoms c .0)
+some c = subst (λ (a : ℕ). 1 ≤ a) (told c .distance) (told c .some)
 
 -- a test of the answer's atom is one of the literal's
 as-atom : (c : tie.After-atom) {t : Bool} → has (c .before .before .before .before .args .o .atoms) (c .atom .given .0 .1 .0 - 1) ≡ t
     → has (c .before .before .before .before .args .o .atoms) (atom (literal (c .before .before .before .before .args .b)) - 1) ≡ t
-as-atom c e = ap (λ (a : ℕ). has (c .before .before .before .before .args .o .atoms) (a - 1)) (sym (is-atom c)) ∙ e
+as-atom c e = ap (λ (a : ℕ). has (c .before .before .before .before .args .o .atoms) (a - 1)) (sym (told c .distance)) ∙ e
 
 its-byte : (c : tie.After-atom) → byteOf (literal (c .before .before .before .before .args .b)) ≡ c .before .before .before .before .args .b
-its-byte c = let u = c .before .before .before .before in byte-of-literal 64 (u .args .b) (lit≤ tt) (u .fits .b .fits) (u .pre .0)
+its-byte c = let u = c .before .before .before .before in byte-of-literal (u .args .b) (u .fits .b .fits)
 
 literal-of-requires : tie.Need-literal-of-requires
 literal-of-requires c κs = search needs
@@ -41,7 +36,7 @@ enum-known-atom : tie.Need-enum-known-atom
 enum-known-atom c = search needs
 
 sub-has : tie.Need-sub-has
-sub-has c = in-atoms (c .before) .0
+sub-has c = told (c .before) .some
 
 has-requires : tie.Need-has-requires
 has-requires c κs = search needs
@@ -56,10 +51,10 @@ slice-write-order : tie.Need-slice-write-order
 slice-write-order c = search needs
 
 sub-adding : tie.Need-sub-adding
-sub-adding c = in-atoms (c .before .before .before) .0
+sub-adding c = told (c .before .before .before) .some
 
 adding-requires : tie.Need-adding-requires
-adding-requires c κs = let r = in-atoms (c .before .before .before) in omega arith
+adding-requires c κs = let r = told (c .before .before .before) in omega (arith, r .some, r .few)
 
 add-t12 : tie.Need-add-t12
 add-t12 c = search needs
@@ -76,7 +71,7 @@ returns-2 c =
     let s = u .before .before .before .before in (
       λ so before is.
           puts (literal (s .args .b)) is (some u) (as-atom u (sym (c .before .before .has .ensures) ∙ c .before .if1 .left)) (s .pre .1)
-          (c .adding .ensures ∙ ap (λ (x : ℕ). adding (s .args .o .atoms) (x - 1)) (is-atom u)) (sym (its-byte u)),
+          (c .adding .ensures ∙ ap (λ (x : ℕ). adding (s .args .o .atoms) (x - 1)) (told u .distance)) (sym (its-byte u)),
       omega arith,
     )
 
