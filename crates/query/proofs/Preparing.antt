@@ -6,6 +6,7 @@ use mathlib.Core.Path.{_≡_, refl, sym, ap, ap₂, _∙_, subst}
 use native.Mathlib.Omega.{arith}
 use lib.ListN.{length, take, drop, set, length-map, take-append-drop}
 use lib.Seq.{length-take-le, take-at}
+use Rattle.prepare.specs.Carried.{negated}
 use Rattle.query.specs.Query.{leaves, replyOf, codeOf, valuesOf, witnessed, placed, afterWalk}
 use Rattle.search.proofs.Sound.{sound}
 use Rattle.search.specs.Models.{value}
@@ -14,8 +15,8 @@ use Rattle.sheet.proofs.EachOnce.{names-each-once, objectives-literals}
 use Rattle.sheet.proofs.Literals.{literal-low, literal-high}
 use Rattle.sheet.proofs.Understood.{passed, clauses-counted, objective-bytes-counted}
 use Rattle.sheet.specs.Layout.{atomCount, clauseCount, objectiveBytes}
-use Rattle.sheet.specs.Literals.{Lit, pos, neg, atom, literal, isLiteral, byteOf}
-use Rattle.sheet.specs.Order.{plains, negated, branch}
+use Rattle.sheet.specs.Literals.{Lit, pos, neg, atom, literal, isLiteral, byteOf, plains}
+use Rattle.sheet.specs.Order.{branch}
 use Rattle.sheet.specs.Reading.{sheetOf, Accepted}
 use Rattle.walk.proofs.Bytes.{byte-literal}
 use Rattle.walk.specs.Carried.{Placed, Readable, Prepared, stateOf, endedAs, runOf, Sound}

@@ -13,14 +13,14 @@ use Rattle.query.specs.Promise.{Answers}
 use Rattle.query.specs.Query.{codeOf, checked, resultAs, queryOf}
 use Rattle.report.specs.Lines.{asked}
 use Rattle.search.proofs.Nodes.{complement-atom, holds-complement, complement-true}
-use Rattle.search.specs.Grown.{complement, game}
+use Rattle.search.specs.Grown.{game}
 use Rattle.search.specs.Models.{holds, Optimal}
 use Rattle.search.specs.Search.{Answer, Yes, No, Cut, NoPlace, search as searched, answered}
 use Rattle.sheet.proofs.EachOnce.{objective-literal, objectives-literals}
 use Rattle.sheet.proofs.Literals.{literal-atom, byte-of-literal, literal-small}
 use Rattle.sheet.proofs.Understood.{passed}
 use Rattle.sheet.specs.Layout.{atomCount, byte, objectiveBytes}
-use Rattle.sheet.specs.Literals.{Lit, atom, literal, between, isLiteral, byteOf}
+use Rattle.sheet.specs.Literals.{Lit, atom, literal, between, isLiteral, byteOf, complement}
 use Rattle.sheet.specs.Reading.{Reading, understood, sheetOf, Accepted}
 use Rattle.walk.proofs.Bytes.{complement-literal, complement-is-literal}
 use Rattle.words.proofs.Bools.{refuted}

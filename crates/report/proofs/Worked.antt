@@ -7,8 +7,8 @@ use Rattle.search.specs.Grown.{isClosed, grow, game}
 use Rattle.search.specs.Models.{value, part}
 use Rattle.search.specs.Search.{visit, store, meet, test, judge, search as searched}
 use Rattle.sheet.specs.Layout.{word}
-use Rattle.sheet.specs.Literals.{signed, literal, isLiteral}
-use Rattle.sheet.specs.Order.{plains, taking, branch}
+use Rattle.sheet.specs.Literals.{signed, literal, isLiteral, plains}
+use Rattle.sheet.specs.Order.{taking, branch}
 use Rattle.sheet.specs.Reading.{short, outOfRange, misplaced, badEnds, badLiteral, badObjective, table, read, sheetOf}
 use Rattle.sheet.specs.Worked.{sheetA}
 use Rattle.text.specs.Text.{letters, decimal, signedDecimal}

@@ -6,9 +6,8 @@ use lib.Dec.{eqb, ltb}
 use lib.ListN.{length, replicate}
 use Rattle.query.specs.Query.{queryOf}
 use Rattle.query.specs.declared.Reply.{Reply}
-use Rattle.search.specs.Grown.{complement}
 use Rattle.sheet.specs.Layout.{byte, objectiveBytes}
-use Rattle.sheet.specs.Literals.{Lit, atom, plain, literal, byteOf}
+use Rattle.sheet.specs.Literals.{Lit, atom, plain, literal, byteOf, complement}
 use Rattle.sheet.specs.Reading.{Reading, refused, understood, read}
 use Rattle.text.specs.Text.{letters, decimal, signedDecimal}
 use Rattle.words.specs.Lists.{below}

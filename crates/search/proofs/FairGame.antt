@@ -11,11 +11,11 @@ use Rattle.search.proofs.Nodes.{complement-atom, Agrees}
 use Rattle.search.proofs.Parts.{contains-irreflexive, contains-transitive, contains-keeps, contains-earlier, earlier-asymmetric}
 use Rattle.search.proofs.ReadingOrder.{leaves-sorted}
 use Rattle.search.proofs.Sound.{Sound}
-use Rattle.search.specs.Grown.{complement, unit, grow, candidateClauses, testClauses, game}
+use Rattle.search.specs.Grown.{unit, grow, candidateClauses, testClauses, game}
 use Rattle.search.specs.Models.{holds, satisfies, models, Model, earlier}
 use Rattle.search.specs.Tree.{leaves}
 use Rattle.sheet.proofs.EachOnce.{InRange}
-use Rattle.sheet.specs.Literals.{Lit}
+use Rattle.sheet.specs.Literals.{Lit, complement}
 use Rattle.sheet.specs.Order.{branch}
 use Rattle.sheet.specs.Reading.{Sheet}
 use Rattle.words.proofs.Members.{any-in, any-out, all-in, all-out, in-below, below-in, pick-in, pick-out}

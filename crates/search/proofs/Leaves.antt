@@ -5,12 +5,11 @@ use mathlib.Core.List.{List, [], _∷_, _++_, map, map-append, append-nil, appen
 use mathlib.Core.Logic.{⊎-elim}
 use mathlib.Core.Path.{_≡_, refl, sym, ap, _∙_, subst}
 use Rattle.search.proofs.Nodes.{complement-atom, holds-complement, Agrees, satisfied-open, open-satisfied, Spread, plains-fits, plains-agrees, one-word}
-use Rattle.search.specs.Grown.{complement, Node, isClosed, grow}
+use Rattle.search.specs.Grown.{Node, isClosed, grow}
 use Rattle.search.specs.Models.{holds, satisfies}
 use Rattle.search.specs.Tree.{leaves}
 use Rattle.sheet.proofs.EachOnce.{NamesEachOnce}
-use Rattle.sheet.specs.Literals.{Lit, atom}
-use Rattle.sheet.specs.Order.{plains}
+use Rattle.sheet.specs.Literals.{Lit, atom, complement, plains}
 
 -- the atoms of a node w and of the literals still to be tried below it
 abbrev pub atomsOf : Node → List Lit → List ℕ

@@ -11,10 +11,9 @@ use lib.Dec.{eqb}
 use lib.Pow.{pow-lt, pow-pos}
 use borrow.Author.Tests.{eq-eqb, eqb-true, not-true}
 use Rattle.search.proofs.Entries.{one-key}
-use Rattle.search.specs.Grown.{complement, sameLit, Node, falseAt, isClosed}
+use Rattle.search.specs.Grown.{sameLit, Node, falseAt, isClosed}
 use Rattle.search.specs.Models.{value, holds, satisfies}
-use Rattle.sheet.specs.Literals.{Lit, pos, neg, atom, plain}
-use Rattle.sheet.specs.Order.{place, plains}
+use Rattle.sheet.specs.Literals.{Lit, pos, neg, atom, plain, complement, place, plains}
 use Rattle.words.proofs.Bits.{has-setOf, has-past, or-power, same-positions}
 use Rattle.words.proofs.Bools.{refuted}
 use Rattle.words.proofs.Members.{any-in, any-out, any-none, all-in, all-out, pick-in, pick-out}

@@ -10,7 +10,7 @@ use lib.ListN.{length, getD}
 use borrow.Author.Tests.{eq-eqb, eqb-true, not-true}
 use Rattle.search.specs.Models.{holds, met, part, contains, firstTrue, earlier}
 use Rattle.sheet.specs.Literals.{Lit, pos}
-use Rattle.sheet.specs.Order.{ascending}
+use Rattle.sheet.specs.Order.{upTo}
 use Rattle.sheet.specs.Reading.{Sheet}
 use Rattle.words.proofs.Bits.{has-setOf}
 use Rattle.words.proofs.Bools.{and-split, refuted}
@@ -137,7 +137,7 @@ first-more f g (o ∷ os) later keeps more = go (f o) (g o) refl refl (first-mor
 module _ (x : Sheet) where
   pub earlier-asymmetric : (m u : ℕ) → earlier x m u ≡ true → earlier x u m ≡ true → ⊥
   unfolding earlier
-  earlier-asymmetric m u = first-asymmetric (map (holds m) (x .objectives ++ ascending (x .atoms))) (map (holds u) (x .objectives ++ ascending (x .atoms)))
+  earlier-asymmetric m u = first-asymmetric (map (holds m) (x .objectives ++ upTo (x .atoms))) (map (holds u) (x .objectives ++ upTo (x .atoms)))
 
   pub earlier-irreflexive : (m : ℕ) → earlier x m m ≡ true → ⊥
   earlier-irreflexive m e = earlier-asymmetric m m e e
@@ -146,5 +146,5 @@ module _ (x : Sheet) where
   unfolding earlier
   contains-earlier few u m e =
       let os = x .objectives in
-      first-more (holds u) (holds m) os (ascending (x .atoms)) (contains-keeps os m u few e)
+      first-more (holds u) (holds m) os (upTo (x .atoms)) (contains-keeps os m u few e)
       (λ each. false≢true (sym (contains-says (part os u) (part os m) e .1) ∙ keeps-within os u m each))

@@ -9,13 +9,13 @@ use borrow.Author.Tests.{eqb-true}
 use Rattle.search.proofs.Entries.{Sorted, sorted-append, sorted-by}
 use Rattle.search.proofs.Leaves.{atomsOf, atoms-child, leaves-closed, leaves-full, leaves-fork, leaf-agrees, spread}
 use Rattle.search.proofs.Nodes.{complement-atom, complement-true, Agrees, decided, Spread}
-use Rattle.search.specs.Grown.{complement, Node, isClosed, grow}
+use Rattle.search.specs.Grown.{Node, isClosed, grow}
 use Rattle.search.specs.Models.{holds, firstTrue, earlier}
 use Rattle.search.specs.Tree.{leaves}
 use Rattle.sheet.proofs.BranchLaws.{taking-old, taking-new}
 use Rattle.sheet.proofs.EachOnce.{NamesEachOnce}
-use Rattle.sheet.specs.Literals.{Lit, atom}
-use Rattle.sheet.specs.Order.{names, takingAll, ascending, branch}
+use Rattle.sheet.specs.Literals.{Lit, atom, complement}
+use Rattle.sheet.specs.Order.{names, takingAll, branch, upTo}
 use Rattle.sheet.specs.Reading.{Sheet}
 use Rattle.words.proofs.Members.{any-out}
 use Rattle.words.specs.Lists.{any}
@@ -139,7 +139,7 @@ module _ (n : ℕ) (cs : List (List Lit)) where
 pub leaves-sorted : (x : Sheet) → NamesEachOnce (x .atoms) (branch x) → (cs : List (List Lit)) → Sorted (earlier x) (leaves (grow cs (branch x) []))
 unfolding branch earlier
 leaves-sorted x once cs =
-    let readings = x .objectives ++ ascending (x .atoms) in
+    let readings = x .objectives ++ upTo (x .atoms) in
     let e : takingAll [] readings ≡ fresh [] readings = taken-fresh [] readings in
     subst (λ (order : List Lit). Sorted (before readings) (leaves (grow cs order []))) (sym e)
     (grown-in-order (x .atoms) cs readings [] [] refl (subst (λ (order : List Lit). Spread (x .atoms) (map atom order)) e (spread (x .atoms) (branch x) once)))

@@ -11,12 +11,12 @@ use Rattle.search.proofs.Nodes.{holds-complement}
 use Rattle.search.proofs.ReadingOrder.{leaves-sorted}
 use Rattle.search.proofs.Sound.{Sound}
 use Rattle.search.specs.Demands.{First, Right}
-use Rattle.search.specs.Grown.{complement, candidateClauses, game}
+use Rattle.search.specs.Grown.{candidateClauses, game}
 use Rattle.search.specs.Maximal.{maximalParts}
 use Rattle.search.specs.Models.{holds, models, Model, Optimal, earlier}
 use Rattle.search.specs.Search.{Answer, Yes, No, Cut, NoPlace}
 use Rattle.search.specs.Tree.{leaves}
-use Rattle.sheet.specs.Literals.{Lit}
+use Rattle.sheet.specs.Literals.{Lit, complement}
 use Rattle.sheet.specs.Reading.{Sheet}
 use Rattle.words.specs.Lists.{pick}
 

@@ -4,11 +4,11 @@ use mathlib.Core.Bool.{true}
 use mathlib.Core.Logic.{_⊎_}
 use mathlib.Core.Path.{_≡_}
 use lib.ListN.{length}
-use Rattle.search.specs.Grown.{complement, game}
+use Rattle.search.specs.Grown.{game}
 use Rattle.search.specs.Maximal.{maximalParts}
 use Rattle.search.specs.Models.{holds, Optimal, earlier}
 use Rattle.search.specs.Search.{State, Answer, Yes, No, Cut, NoPlace, search, answered, ended}
-use Rattle.sheet.specs.Literals.{Lit}
+use Rattle.sheet.specs.Literals.{Lit, complement}
 use Rattle.sheet.specs.Reading.{Sheet}
 
 -- m is an optimal model that satisfies q, and the first of them in reading order

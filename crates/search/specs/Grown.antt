@@ -6,8 +6,8 @@ use lib.Dec.{eqb}
 use Rattle.search.specs.Models.{holds, part, contains}
 use Rattle.search.specs.Search.{Game}
 use Rattle.search.specs.Tree.{Tree, closed, full, fork}
-use Rattle.sheet.specs.Literals.{Lit, pos, neg}
-use Rattle.sheet.specs.Order.{plains, branch}
+use Rattle.sheet.specs.Literals.{Lit, pos, neg, plains}
+use Rattle.sheet.specs.Order.{branch}
 use Rattle.sheet.specs.Reading.{Sheet}
 use Rattle.words.specs.Lists.{any, all, pick}
 

@@ -4,7 +4,7 @@ use mathlib.Core.Bool.{Bool, true, false, not}
 use mathlib.Core.List.{List, [], _∷_, _++_, map}
 use mathlib.Core.Path.{_≡_}
 use Rattle.sheet.specs.Literals.{Lit, pos, neg}
-use Rattle.sheet.specs.Order.{ascending}
+use Rattle.sheet.specs.Order.{upTo}
 use Rattle.sheet.specs.Reading.{Sheet}
 use Rattle.words.specs.Lists.{any, all, pick, below}
 use Rattle.words.specs.Positions.{has, setOf, strictlyWithin}
@@ -62,4 +62,4 @@ firstTrue (false ∷ xs) (false ∷ ys) = firstTrue xs ys
 -- differs, look at atoms from 1: at the first that differs, the one with true comes first."
 unfoldable pub earlier : Sheet → ℕ → ℕ → Bool
 earlier x m u =
-    let readings : List Lit = x .objectives ++ ascending (x .atoms) in firstTrue (map (holds m) readings) (map (holds u) readings)
+    let readings : List Lit = x .objectives ++ upTo (x .atoms) in firstTrue (map (holds m) readings) (map (holds u) readings)

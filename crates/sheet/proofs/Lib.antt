@@ -6,6 +6,7 @@ pub mod ExactlyOne
 pub mod Understood
 pub mod ClauseLaws
 pub mod BranchLaws
+pub mod Atoms
 pub mod EachOnce
 pub mod Answered
 pub mod WorkedSheets

@@ -10,7 +10,7 @@ use borrow.Author.Tests.{lt-ltb, le-ltb, ltb-false, eqb-true, not-false}
 use Rattle.sheet.proofs.Literals.{between-says}
 use Rattle.sheet.specs.Layout.{header, atomCount, clauseCount, objectiveCount, literalCount, endsAt, literalsAt, objectivesAt, totalBytes, clauseStart, clauseEnd, objectiveBytes}
 use Rattle.sheet.specs.Literals.{between}
-use Rattle.sheet.specs.Passed.{Counted, Placed}
+use Rattle.sheet.specs.Passed.{Counted, Whole}
 use Rattle.sheet.specs.Reading.{short, outOfRange, misplaced, falls, badEnds, badLiteral, badObjective, row, table, firstOf, Reading, understood, sheetOf, read}
 use Rattle.words.proofs.Bools.{or-split}
 use Rattle.words.specs.Lists.{any, below}
@@ -55,7 +55,7 @@ module _ (s : List ℕ) where
         literals = between-says 0 8192 (literalCount s) (not-false _ (p .1)) .1;
       }
 
-  pub placed : Counted s → misplaced s ≡ false → Placed s
+  pub placed : Counted s → misplaced s ≡ false → Whole s
   unfolding misplaced
   placed c e =
       let p = or-split (not (eqb (header s 4) endsAt) || not (eqb (header s 5) (literalsAt s)) || not (eqb (header s 6) (objectivesAt s)) || not (eqb (header s 7) (totalBytes s))) _ e in

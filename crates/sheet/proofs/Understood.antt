@@ -8,16 +8,16 @@ use lib.ListN.{length, drop, length-map, length-drop}
 use lib.Seq.{length-take-le}
 use Rattle.sheet.proofs.ExactlyOne.{Says, exactly-one}
 use Rattle.sheet.proofs.Table.{short-says, counted, placed}
-use Rattle.sheet.specs.Layout.{atomCount, clauseCount, objectiveCount, objectivesAt, totalBytes, part, clauseBytes, objectiveBytes}
+use Rattle.sheet.specs.Layout.{atomCount, clauseCount, objectiveCount, objectivesAt, totalBytes, span, clauseBytes, objectiveBytes}
 use Rattle.sheet.specs.Literals.{literal}
-use Rattle.sheet.specs.Passed.{Placed}
+use Rattle.sheet.specs.Passed.{Whole}
 use Rattle.sheet.specs.Reading.{short, outOfRange, misplaced, badEnds, badLiteral, badObjective, Row, row, table, sheetOf, Accepted}
 use Rattle.words.proofs.Lists.{length-below}
 use Rattle.words.specs.Lists.{below}
 
 -- a part that lies within the list has all its bytes
-pub length-part : (from to : ℕ) (s : List ℕ) → to ≤ length s → length (part from to s) ≡ to - from
-length-part from to s h = length-take-le (to - from) (drop from s) (simp length-drop (omega arith))
+pub length-span : (from to : ℕ) (s : List ℕ) → to ≤ length s → length (span from to s) ≡ to - from
+length-span from to s h = length-take-le (to - from) (drop from s) (simp length-drop (omega arith))
 
 module _ (s : List ℕ) where
   pub atoms-are : sheetOf s .atoms ≡ atomCount s
@@ -28,17 +28,17 @@ module _ (s : List ℕ) where
   unfolding sheetOf
   clauses-counted = length-map (below (clauseCount s)) (λ i. map literal (clauseBytes s i)) ∙ length-below (clauseCount s)
 
-  pub objective-bytes-counted : Placed s → length (objectiveBytes s) ≡ objectiveCount s
-  objective-bytes-counted p = length-part (objectivesAt s) (totalBytes s) s (omega (arith, p .whole)) ∙ omega arith
+  pub objective-bytes-counted : Whole s → length (objectiveBytes s) ≡ objectiveCount s
+  objective-bytes-counted p = length-span (objectivesAt s) (totalBytes s) s (omega (arith, p .whole)) ∙ omega arith
 
-  pub objectives-counted : Placed s → length (sheetOf s .objectives) ≡ objectiveCount s
+  pub objectives-counted : Whole s → length (sheetOf s .objectives) ≡ objectiveCount s
   unfolding sheetOf
   objectives-counted p = length-map (objectiveBytes s) literal ∙ objective-bytes-counted p
 
 -- ---- no row applies to an accepted sheet
 
 pub record Passed (s : List ℕ) : Type 0 where
-  pub sized : Placed s
+  pub sized : Whole s
   pub endsRise : badEnds s ≡ false
   pub allLiterals : badLiteral s ≡ false
   pub objectivesRight : badObjective (atomCount s) (objectiveBytes s) ≡ false

@@ -1,14 +1,11 @@
 -- The answers of the code as values of the document.
 use Prim.Native.Nat.{ℕ}
 use mathlib.Core.Bool.{cond}
-use mathlib.Core.List.{List}
 use lib.ListN.{length}
-use Rattle.sheet.specs.Literals.{Lit, plain, atom, literal, isLiteral}
-use Rattle.sheet.specs.Order.{plains, negated}
+use Rattle.sheet.specs.Literals.{plain, atom, literal, isLiteral}
 use Rattle.sheet.specs.Reading.{Reading, refused, understood}
 use Rattle.sheet.specs.declared.Checked.the-variants.{Refused, Accepted}
 use Rattle.sheet.specs.declared.Checked.{Checked}
-use Rattle.sheet.specs.declared.clauses.Literals.{Literals}
 use Rattle.sheet.specs.declared.literal.Literal.the-variants.{Of, Neither}
 use Rattle.sheet.specs.declared.literal.Literal.{Literal}
 
@@ -20,7 +17,3 @@ answer (understood x) = Accepted (x .atoms) (length (x .clauses)) (length (x .ob
 -- the literal of a byte among n atoms, if it is one
 abbrev pub literalAnswer : ℕ → ℕ → Literal
 literalAnswer n b = cond (isLiteral n b) (Of (plain (literal b)) (atom (literal b))) Neither
-
--- some literals as the two sets of their atoms
-abbrev pub setsOf : List Lit → Literals
-setsOf c = record { plains = plains c; negated = negated c }

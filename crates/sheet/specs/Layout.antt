@@ -8,8 +8,8 @@ abbrev pub byte : List ℕ → ℕ → ℕ
 byte s at = getD s at 0
 
 -- the bytes from a place on, up to another
-abbrev pub part : ℕ → ℕ → List ℕ → List ℕ
-part from to s = take (to - from) (drop from s)
+abbrev pub span : ℕ → ℕ → List ℕ → List ℕ
+span from to s = take (to - from) (drop from s)
 
 -- a little-endian 32-bit word
 unfoldable pub word : List ℕ → ℕ → ℕ
@@ -62,10 +62,10 @@ clauseStart s (suc i) = clauseEnd s i
 
 -- "Clause literals and objectives are one byte each."
 abbrev pub clauseBytes : List ℕ → ℕ → List ℕ
-clauseBytes s i = part (literalsAt s + clauseStart s i) (literalsAt s + clauseEnd s i) s
+clauseBytes s i = span (literalsAt s + clauseStart s i) (literalsAt s + clauseEnd s i) s
 
 abbrev pub literalBytes : List ℕ → List ℕ
-literalBytes s = part (literalsAt s) (objectivesAt s) s
+literalBytes s = span (literalsAt s) (objectivesAt s) s
 
 abbrev pub objectiveBytes : List ℕ → List ℕ
-objectiveBytes s = part (objectivesAt s) (totalBytes s) s
+objectiveBytes s = span (objectivesAt s) (totalBytes s) s

@@ -1,8 +1,11 @@
 -- Literals, and the bytes that stand for them. Quotations are of document 01.
 use Prim.Native.Nat.{ℕ, suc, _-_}
 use mathlib.Core.Bool.{Bool, true, false, cond, _&&_, _||_}
+use mathlib.Core.List.{List, map}
 use lib.Dec.{ltb, leb}
 use lib.IntN.{ℤ, subℕ}
+use Rattle.words.specs.Lists.{pick}
+use Rattle.words.specs.Positions.{setOf}
 
 -- "A literal is an atom or its negation."
 pub data Lit : Type 0 where
@@ -16,6 +19,18 @@ atom (neg a) = a
 abbrev pub plain : Lit → Bool
 plain (pos a) = true
 plain (neg a) = false
+
+-- the complement of a literal
+abbrev pub complement : Lit → Lit
+complement (pos a) = neg a
+complement (neg a) = pos a
+
+-- the atoms that stand plain among some literals, as a set: atom a is position a - 1
+abbrev pub place : Lit → ℕ
+place l = atom l - 1
+
+unfoldable pub plains : List Lit → ℕ
+plains ls = setOf (map place (pick plain ls))
 
 -- "A literal byte is read as a two's complement number from -128 to 127": from 128 on, the byte less 256
 unfoldable pub signed : ℕ → ℤ

@@ -1,27 +1,23 @@
--- What the walk takes from a sheet: each clause as two sets of atoms, and the branch order. Quotations are of document 01.
-use Prim.Native.Nat.{ℕ, suc, _-_}
-use mathlib.Core.Bool.{Bool, true, false, not}
+-- The atoms that are given values, in which order a model is read, and the branch order. Quotations are of document 01.
+use Prim.Native.Nat.{ℕ, suc}
+use mathlib.Core.Bool.{Bool, true, false}
 use mathlib.Core.List.{List, [], _∷_, _++_, map}
 use lib.Dec.{eqb}
-use Rattle.sheet.specs.Literals.{Lit, pos, atom, plain}
+use Rattle.sheet.specs.Literals.{Lit, pos, atom}
 use Rattle.sheet.specs.Reading.{Sheet}
-use Rattle.words.specs.Lists.{any, pick, below}
-use Rattle.words.specs.Positions.{setOf}
+use Rattle.words.specs.Lists.{any, below}
 
--- ---- a clause as two sets of atoms
+-- the atoms 1 to n
+abbrev pub upTo : ℕ → List ℕ
+upTo n = map suc (below n)
 
--- atom a is position a - 1
-abbrev pub place : Lit → ℕ
-place l = atom l - 1
+-- "it takes a model to be a value for every atom 1 to n that the sheet declares": the atoms that are given values and branched on
+abbrev pub valued : Sheet → List ℕ
+valued x = upTo (x .atoms)
 
--- the atoms that stand in a clause, and those that stand negated
-unfoldable pub plains : List Lit → ℕ
-plains c = setOf (map place (pick plain c))
-
-unfoldable pub negated : List Lit → ℕ
-negated c = setOf (map place (pick (λ l. not (plain l)) c))
-
--- ---- the branch order
+-- "look at objective positions from 0 .. look at atoms from 1": the literals in the order in which a model is read
+abbrev pub readings : Sheet → List Lit
+readings x = x .objectives ++ map pos (valued x)
 
 -- the literal is of atom a
 abbrev pub names : ℕ → Lit → Bool
@@ -36,11 +32,7 @@ abbrev pub takingAll : List Lit → List Lit → List Lit
 takingAll order [] = order
 takingAll order (l ∷ ls) = takingAll (taking order l) ls
 
--- the atoms 1 to n
-abbrev pub ascending : ℕ → List Lit
-ascending n = map (λ i. pos (suc i)) (below n)
-
 -- "The branch order is the atoms of the objectives by first appearance, each first with the value that satisfies the objective where it
 -- first appears; then the remaining atoms ascending, true first." An entry is the literal that is made true first.
 unfoldable pub branch : Sheet → List Lit
-branch x = takingAll [] (x .objectives ++ ascending (x .atoms))
+branch x = takingAll [] (readings x)

@@ -3,10 +3,8 @@ ghost use mathlib.Core.Path.{_≡_};
 ghost use Rattle.sheet.specs.Reading.{read};
 ghost use Rattle.sheet.specs.Answers.{answer};
 
-mod bytes;
-pub mod clauses;
+pub mod bytes;
 pub mod literal;
-pub mod order;
 mod refusals;
 
 // What the check of a sheet answers.

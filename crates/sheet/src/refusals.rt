@@ -5,7 +5,7 @@ ghost use lib.ListN.{length};
 ghost use Rattle.words.specs.Lists.{any};
 ghost use Rattle.sheet.specs.Layout.{atomCount, objectiveBytes};
 ghost use Rattle.sheet.specs.Reading.{outOfRange, misplaced as isMisplaced, badEnds, noLiteral, badLiteral, badObjective};
-ghost use Rattle.sheet.specs.Passed.{Counted, Placed};
+ghost use Rattle.sheet.specs.Passed.{Counted, Whole};
 use crate::bytes::word_at;
 use crate::literal::is_literal;
 
@@ -61,7 +61,7 @@ pub fn misplaced(s: &[u8]) -> bool
 
 // 13: whether the clause ends fall, or the last one is not the number of literals.
 pub fn bad_ends(s: &[u8]) -> bool
-    requires { ⌜ Placed (now s) ⌝ }
+    requires { ⌜ Whole (now s) ⌝ }
     ensures { λ r. ⌜ r ≡ badEnds (now (s .entry)) ⌝ }
 {
     let clauses = word_at(s, 4) as usize;
@@ -98,7 +98,7 @@ fn any_bad(bytes: &[u8], n: u8) -> bool
 
 // 14: whether some clause byte is no literal.
 pub fn bad_literal(s: &[u8]) -> bool
-    requires { ⌜ Placed (now s) ⌝ }
+    requires { ⌜ Whole (now s) ⌝ }
     ensures { λ r. ⌜ r ≡ badLiteral (now (s .entry)) ⌝ }
 {
     let from = 32 + 4 * word_at(s, 4) as usize;
@@ -134,7 +134,7 @@ fn bad_or_twice(bytes: &[u8], n: u8) -> bool
 
 // 15: whether some objective byte is no literal, or stands twice.
 pub fn bad_objective(s: &[u8]) -> bool
-    requires { ⌜ Placed (now s) ⌝ }
+    requires { ⌜ Whole (now s) ⌝ }
     ensures { λ r. ⌜ r ≡ badObjective (atomCount (now (s .entry))) (objectiveBytes (now (s .entry))) ⌝ }
 {
     let from = 32 + 4 * word_at(s, 4) as usize + word_at(s, 12) as usize;

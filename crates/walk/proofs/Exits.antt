@@ -5,12 +5,11 @@ use mathlib.Core.List.{List, [], _∷_, _++_, map}
 use mathlib.Core.Path.{_≡_, sym, ap, _∙_}
 use lib.ListN.{length, drop, drop-of-length-le}
 use borrow.Author.Tests.{lt-ltb, le-ltb}
-use Rattle.search.specs.Grown.{complement, isClosed, grow}
+use Rattle.search.specs.Grown.{isClosed, grow}
 use Rattle.search.specs.Search.{State, Cut, withSteps, from, visit, visitCandidate}
 use Rattle.search.specs.Tree.{Tree, closed, full, fork, Run, on, off, then, walk}
 use Rattle.sheet.specs.Layout.{byte}
-use Rattle.sheet.specs.Literals.{Lit, literal}
-use Rattle.sheet.specs.Order.{plains}
+use Rattle.sheet.specs.Literals.{Lit, literal, complement, plains}
 use Rattle.words.proofs.Lists.{onward}
 
 -- ---- a visit

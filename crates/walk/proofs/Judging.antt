@@ -10,14 +10,14 @@ use native.Mathlib.Omega.{arith}
 use lib.ListN.{length, getD, take, drop, set}
 use lib.Seq.{drop-drop, drop-length, length-take-le, take-suc, take-suc-set}
 use borrow.Author.Tests.{lt-ltb, le-ltb}
-use Rattle.search.specs.Grown.{complement, game}
+use Rattle.prepare.specs.Carried.{setsOf, negated}
+use Rattle.search.specs.Grown.{game}
 use Rattle.search.specs.Models.{holds, part}
 use Rattle.search.specs.Search.{State, Yes, Cut, NoPlace, spent, found, withSteps, withTest, withPart, store, settle, meet, test, judge}
 use Rattle.search.specs.Tree.{on, off}
-use Rattle.sheet.specs.Answers.{setsOf}
 use Rattle.sheet.specs.Layout.{byte}
-use Rattle.sheet.specs.Literals.{Lit, pos, neg, atom, literal, isLiteral}
-use Rattle.sheet.specs.Order.{plains, negated, branch}
+use Rattle.sheet.specs.Literals.{Lit, pos, neg, atom, literal, isLiteral, complement, plains}
+use Rattle.sheet.specs.Order.{branch}
 use Rattle.sheet.specs.Reading.{Sheet}
 use Rattle.walk.proofs.Bytes.{in-atoms, complement-placed}
 use Rattle.walk.specs.Carried.{Placed, meetPart, testBelow, Onward}

@@ -5,12 +5,13 @@ use mathlib.Core.Bool.{true, false}
 use mathlib.Core.List.{List, _++_, map, List·Memᴰ as Mem}
 use mathlib.Core.Path.{_≡_}
 use lib.ListN.{length, take, drop}
+use Rattle.prepare.specs.Carried.{negated}
 use Rattle.search.specs.Grown.{unit, grow}
 use Rattle.search.specs.Models.{part, contains}
 use Rattle.search.specs.Search.{State, Answer, Yes, Cut, NoPlace, Stop, spent, found, visit}
 use Rattle.search.specs.Tree.{Run, on, off, walk}
-use Rattle.sheet.specs.Literals.{Lit, atom, literal, isLiteral}
-use Rattle.sheet.specs.Order.{plains, negated, branch}
+use Rattle.sheet.specs.Literals.{Lit, atom, literal, isLiteral, plains}
+use Rattle.sheet.specs.Order.{branch}
 use Rattle.sheet.specs.Reading.{Sheet}
 use Rattle.walk.specs.declared.candidates.Ending.the-variants.{Going, Affirmed, Exhausted, Full}
 use Rattle.walk.specs.declared.candidates.Ending.{Ending}

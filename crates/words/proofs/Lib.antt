@@ -4,4 +4,3 @@ pub mod Lists
 pub mod Members
 pub mod Bits
 pub mod Containment
-pub mod Counting

@@ -1,7 +1,9 @@
--- Lists: tests over them, each of which stops at the first entry that decides it, the numbers that are gone through, and when entries are distinct.
+-- Lists: tests over them, each of which stops at the first entry that decides it; a list written over another; the numbers that are gone
+-- through; when entries are distinct.
 use Prim.Native.Nat.{ℕ, zero, suc}
 use mathlib.Core.Bool.{Bool, true, false}
 use mathlib.Core.List.{List, [], _∷_, _++_, List·Memᴰ as Mem}
+use lib.ListN.{length, drop}
 
 module _ {A : Type 0} where
   -- some entry passes
@@ -18,6 +20,10 @@ module _ {A : Type 0} where
   abbrev pub pick : (A → Bool) → List A → List A
   pick f [] = []
   pick f (x ∷ xs) = elim (f x) [ true ↦ x ∷ pick f xs | false ↦ pick f xs ]
+
+  -- xs in the first places of ys, whose other places are as they were
+  abbrev pub over : List A → List A → List A
+  over xs ys = xs ++ drop (length xs) ys
 
 -- 0, 1, 2 and so on: n numbers
 unfoldable pub below : ℕ → List ℕ

@@ -3,8 +3,7 @@ use Prim.Native.Nat.{ℕ, _+_, _/_, _%_, _^_}
 use mathlib.Core.Bool.{Bool, not, cond, _&&_, _||_}
 use mathlib.Core.List.{List, [], _∷_}
 use lib.Dec.{eqb}
-use lib.ListN.{length}
-use Rattle.words.specs.Lists.{all, pick, below}
+use Rattle.words.specs.Lists.{all, below}
 
 -- position i is in the set w
 unfoldable pub has : ℕ → ℕ → Bool
@@ -17,10 +16,6 @@ within a b = all (λ i. not (has a i) || has b i) (below 64)
 -- every position of a is one of b, and not every position of b is one of a
 unfoldable pub strictlyWithin : ℕ → ℕ → Bool
 strictlyWithin a b = within a b && not (within b a)
-
--- how many positions are in the set w
-unfoldable pub count : ℕ → ℕ
-count w = length (pick (has w) (below 64))
 
 -- the set w and position i
 unfoldable pub adding : ℕ → ℕ → ℕ

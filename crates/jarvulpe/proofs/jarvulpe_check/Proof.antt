@@ -8,13 +8,13 @@ use Rattle.jarvulpe.proofs.jarvulpe_check.Tie as tie
 use Rattle.jarvulpe.specs.Boundary.{codeOf, sizesOf}
 use Rattle.sheet.proofs.Answered.{Sized, answered-refused, answered-accepted}
 use Rattle.sheet.proofs.Understood.{passed, atoms-are, clauses-counted, objectives-counted}
-use Rattle.sheet.specs.Passed.{Placed}
+use Rattle.sheet.specs.Passed.{Whole}
 use Rattle.sheet.specs.Reading.{Reading}
 
 sized : (c : tie.After-answer2) → let v = c .answer2 .given .0 in Sized (c .before .before .before .before .args .sheet .now) (v .0) (v .1 .0) (v .1 .1 .0)
 sized c = answered-accepted _ (sym (c .answer2 .given .1) ∙ c .before .before .check .ensures)
 
-few : (c : tie.After-answer2) → Placed (c .before .before .before .before .args .sheet .now)
+few : (c : tie.After-answer2) → Whole (c .before .before .before .before .args .sheet .now)
 few c = passed _ (sized c .accepted) .sized
 
 check-requires : tie.Need-check-requires

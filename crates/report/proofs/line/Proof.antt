@@ -11,11 +11,10 @@ use Rattle.report.proofs.Texts.{no-line, a-line}
 use Rattle.report.proofs.line.Statement.{statement}
 use Rattle.report.proofs.line.Tie as tie
 use Rattle.report.specs.Lines.{line, asked, lineCount}
-use Rattle.search.specs.Grown.{complement}
 use Rattle.sheet.proofs.Answered.{Sized, answered-refused, answered-accepted}
 use Rattle.sheet.proofs.Understood.{passed, objectives-counted, objective-bytes-counted}
 use Rattle.sheet.specs.Layout.{objectiveBytes}
-use Rattle.sheet.specs.Literals.{isLiteral, literal}
+use Rattle.sheet.specs.Literals.{isLiteral, literal, complement}
 use Rattle.sheet.specs.Reading.{read}
 use Rattle.text.proofs.Written.{same-text, nothing-put}
 

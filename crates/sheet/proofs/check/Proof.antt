@@ -8,7 +8,7 @@ use Rattle.sheet.proofs.Understood.{atoms-are, clauses-counted, objecti
 use Rattle.sheet.proofs.check.Statement.{statement}
 use Rattle.sheet.proofs.check.Tie as tie
 use Rattle.sheet.specs.Answers.{answer}
-use Rattle.sheet.specs.Passed.{Counted, Placed}
+use Rattle.sheet.specs.Passed.{Counted, Whole}
 use Rattle.sheet.specs.Reading.{short, outOfRange, misplaced, badEnds, read}
 use Rattle.sheet.specs.declared.Checked.the-variants.{Accepted}
 
@@ -24,7 +24,7 @@ is-counted c = counted _ (c .before .before .if1 .left) (in-range c)
 in-place : (c : tie.Else3) → misplaced (c .before .before .before .before .before .before .args .s .now) ≡ false
 in-place c = sym (c .before .misplaced .ensures) ∙ c .if3 .left
 
-is-placed : (c : tie.Else3) → Placed (c .before .before .before .before .before .before .args .s .now)
+is-placed : (c : tie.Else3) → Whole (c .before .before .before .before .before .before .args .s .now)
 is-placed c = placed _ (is-counted (c .before .before)) (in-place c)
 
 ends-rise : (c : tie.Else4) → badEnds (c .before .before .before .before .before .before .before .before .args .s .now) ≡ false

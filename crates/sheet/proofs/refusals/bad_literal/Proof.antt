@@ -4,7 +4,7 @@ use mathlib.Core.Path.{_∙_}
 use borrow.Author.Needs.{needs}
 use Rattle.sheet.proofs.refusals.bad_literal.Statement.{statement}
 use Rattle.sheet.proofs.refusals.bad_literal.Tie as tie
-use Rattle.sheet.specs.Layout.{part}
+use Rattle.sheet.specs.Layout.{span}
 use Rattle.sheet.specs.Reading.{noLiteral, badLiteral}
 use Rattle.words.specs.Lists.{any}
 
@@ -53,7 +53,7 @@ returns c =
     let u = c .before .before .before in
     let s = u .before .before .before .args .s .now in
     c .any-bad .ensures
-    ∙ (λ i. any (noLiteral (c .before .word-at3 .ensures i)) (part (32 + 4 * u .before .word-at .ensures i) (32 + 4 * u .before .word-at .ensures i + u .word-at2 .ensures i) s))
+    ∙ (λ i. any (noLiteral (c .before .word-at3 .ensures i)) (span (32 + 4 * u .before .word-at .ensures i) (32 + 4 * u .before .word-at .ensures i + u .word-at2 .ensures i) s))
 
 pub bad-literal-spec : {M : Type 1} → statement M
 bad-literal-spec =

@@ -4,7 +4,7 @@ use mathlib.Core.Path.{_≡_, _∙_}
 use borrow.Author.Needs.{needs}
 use Rattle.sheet.proofs.refusals.bad_objective.Statement.{statement}
 use Rattle.sheet.proofs.refusals.bad_objective.Tie as tie
-use Rattle.sheet.specs.Layout.{part, objectivesAt}
+use Rattle.sheet.specs.Layout.{span, objectivesAt}
 use Rattle.sheet.specs.Reading.{badObjective}
 
 word-at-requires : tie.Need-word-at-requires
@@ -61,7 +61,7 @@ returns c =
     let s = u .before .before .before .before .args .s .now in
     let from : _ ≡ objectivesAt s = λ i. 32 + 4 * u .before .before .word-at .ensures i + u .before .word-at2 .ensures i in
     c .bad-or-twice .ensures
-    ∙ (λ i. badObjective (c .before .word-at4 .ensures i) (part (from i) (from i + u .word-at3 .ensures i) s))
+    ∙ (λ i. badObjective (c .before .word-at4 .ensures i) (span (from i) (from i + u .word-at3 .ensures i) s))
 
 pub bad-objective-spec : {M : Type 1} → statement M
 bad-objective-spec =

@@ -8,13 +8,13 @@ use lib.ListN.{length, drop}
 use borrow.Author.Needs.{needs}
 use borrow.Fn.Kinds.{In}
 use borrow.Fn.PlainCycle.{Measures, is, falls, and}
-use Rattle.search.specs.Grown.{complement, candidateClauses, game, isClosed, grow}
+use Rattle.prepare.specs.Carried.{setsOf}
+use Rattle.search.specs.Grown.{candidateClauses, game, isClosed, grow}
 use Rattle.search.specs.Search.{State, Answer, withSteps, judge, visitCandidate}
 use Rattle.search.specs.Tree.{Run, on, off, walk}
 use Rattle.sheet.proofs.clauses.with_literal.Reads as with-literal-reads
-use Rattle.sheet.specs.Answers.{setsOf}
 use Rattle.sheet.specs.Layout.{byte}
-use Rattle.sheet.specs.Literals.{Lit, atom, literal, isLiteral}
+use Rattle.sheet.specs.Literals.{Lit, atom, literal, isLiteral, complement}
 use Rattle.sheet.specs.Reading.{Sheet}
 use Rattle.sheet.specs.declared.clauses.Literals.{Literals}
 use Rattle.walk.proofs.Bytes.{in-atoms, complement-placed}

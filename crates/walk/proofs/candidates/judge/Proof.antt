@@ -5,11 +5,10 @@ use native.Mathlib.Omega.{arith}
 use lib.ListN.{length}
 use lib.Seq.{length-take-le}
 use borrow.Author.Needs.{needs}
-use Rattle.search.specs.Grown.{complement}
+use Rattle.prepare.specs.Carried.{negated}
 use Rattle.search.specs.Models.{holds, part}
 use Rattle.search.specs.Search.{settle, withTest}
-use Rattle.sheet.specs.Literals.{literal}
-use Rattle.sheet.specs.Order.{plains, negated}
+use Rattle.sheet.specs.Literals.{literal, complement, plains}
 use Rattle.sheet.specs.Reading.{Sheet}
 use Rattle.walk.proofs.Judging.{root-is, judge-passed, judge-tests, conditions-placed}
 use Rattle.walk.proofs.candidates.judge.Statement.{statement}

@@ -3,10 +3,10 @@ use mathlib.Core.List.{List, [], _∷_, List·Memᴰ·not-nil as not-nil}
 use mathlib.Core.Path.{ap, _∙_}
 use lib.ListN.{length}
 use borrow.Author.Needs.{needs}
+use Rattle.prepare.specs.Carried.{setsOf}
 use Rattle.search.specs.Grown.{candidateClauses, game, grow}
 use Rattle.search.specs.Search.{start, visitCandidate, judge, search as searched}
 use Rattle.search.specs.Tree.{walk}
-use Rattle.sheet.specs.Answers.{setsOf}
 use Rattle.sheet.specs.Literals.{Lit, literal}
 use Rattle.walk.proofs.Judging.{root-is}
 use Rattle.walk.proofs.candidates.walk_all.Statement.{statement}

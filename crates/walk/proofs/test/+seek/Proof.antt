@@ -8,13 +8,13 @@ use lib.ListN.{length, drop}
 use borrow.Author.Needs.{needs}
 use borrow.Fn.Kinds.{In}
 use borrow.Fn.PlainCycle.{Measures, is, falls, and}
-use Rattle.search.specs.Grown.{complement, unit, isClosed, grow}
+use Rattle.prepare.specs.Carried.{setsOf}
+use Rattle.search.specs.Grown.{unit, isClosed, grow}
 use Rattle.search.specs.Search.{Stop, spent, visit}
 use Rattle.search.specs.Tree.{Run, on, off}
 use Rattle.sheet.proofs.clauses.with_literal.Reads as with-literal-reads
-use Rattle.sheet.specs.Answers.{setsOf}
 use Rattle.sheet.specs.Layout.{byte}
-use Rattle.sheet.specs.Literals.{Lit, literal, isLiteral}
+use Rattle.sheet.specs.Literals.{Lit, literal, isLiteral, complement}
 use Rattle.sheet.specs.declared.clauses.Literals.{Literals}
 use Rattle.walk.proofs.Bytes.{in-atoms, complement-placed}
 use Rattle.walk.proofs.Exits.{visit-due, visit-refused, out-refused, out-closed, out-full, out-first, out-second, order-next, order-end}

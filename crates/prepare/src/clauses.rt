@@ -2,17 +2,16 @@
 ghost use mathlib.Core.Path.{_≡_};
 ghost use mathlib.Core.Bool.{true};
 ghost use mathlib.Core.List.{List, _∷_, _++_, map};
-ghost use Prim.Native.Nat.{ℕ, _≤_};
+ghost use Prim.Native.Nat.{_≤_};
 ghost use lib.ListN.{length, drop};
 ghost use Rattle.words.specs.Lists.{all};
-ghost use Rattle.sheet.specs.Literals.{Lit, literal, isLiteral};
+ghost use Rattle.sheet.specs.Literals.{Lit, literal, isLiteral, plains as plainAtoms};
 ghost use Rattle.sheet.specs.Layout.{clauseCount};
 ghost use Rattle.sheet.specs.Reading.{sheetOf, Accepted};
-ghost use Rattle.sheet.specs.Order.{plains as plainAtoms, negated as negatedAtoms};
-ghost use Rattle.sheet.specs.Answers.{setsOf};
-use crate::bytes::word_at;
-use crate::literal::Literal;
-use crate::literal::literal_of;
+ghost use Rattle.prepare.specs.Carried.{negated as negatedAtoms, setsOf};
+use sheet::bytes::word_at;
+use sheet::literal::Literal;
+use sheet::literal::literal_of;
 
 // A set of literals, as a clause is one: the atoms that stand in it, and those that stand negated.
 pub struct Literals {

@@ -1,22 +1,22 @@
--- `sheet::clauses::clauses_into`: after i turns the first i places hold the sets of the first i clauses, and the others what they held. Assumes nothing.
+-- `prepare::clauses::clauses_into`: after i turns the first i places hold the sets of the first i clauses, and the others what they held. Assumes nothing.
 use Prim.Native.Nat.{ℕ, _+_, _-_, _*_, _≤_, _<_}
 use mathlib.Core.List.{List, _++_, map}
 use mathlib.Core.Path.{_≡_, refl, sym, ap, _∙_, subst, subst₂}
 use native.Mathlib.Omega.{arith}
 use lib.ListN.{length, drop, set, length-set}
 use borrow.Author.Needs.{needs}
-use Rattle.sheet.proofs.ClauseLaws.{clause-rises, clause-ends-within, clause-literals, firstSets, no-sets, next-set}
+use Rattle.prepare.proofs.SetLaws.{firstSets, no-sets, next-set}
+use Rattle.prepare.specs.Carried.{setsOf, negated as negatedAtoms}
+use Rattle.sheet.proofs.ClauseLaws.{clause-rises, clause-ends-within, clause-literals}
 use Rattle.sheet.proofs.Table.{start-next}
 use Rattle.sheet.proofs.Understood.{passed}
-use Rattle.sheet.proofs.clauses.clauses_into.Statement.{statement}
-use Rattle.sheet.proofs.clauses.clauses_into.Tie as tie
-use Rattle.sheet.specs.Answers.{setsOf}
-use Rattle.sheet.specs.Layout.{clauseCount, literalCount, clauseStart, clauseBytes, part}
-use Rattle.sheet.specs.Literals.{literal, isLiteral}
-use Rattle.sheet.specs.Order.{plains as plainAtoms, negated as negatedAtoms}
-use Rattle.sheet.specs.Passed.{Placed}
+use Rattle.prepare.proofs.clauses.clauses_into.Statement.{statement}
+use Rattle.prepare.proofs.clauses.clauses_into.Tie as tie
+use Rattle.sheet.specs.Layout.{clauseCount, literalCount, clauseStart, clauseBytes, span}
+use Rattle.sheet.specs.Literals.{literal, isLiteral, plains as plainAtoms}
+use Rattle.sheet.specs.Passed.{Whole}
 use Rattle.sheet.specs.Reading.{sheetOf}
-use Rattle.sheet.specs.declared.clauses.Literals.{Literals}
+use Rattle.prepare.specs.declared.clauses.Literals.{Literals}
 use Rattle.words.specs.Lists.{all}
 
 abbrev Inv-loop : tie.InvT-loop
@@ -32,7 +32,7 @@ abbrev μ-loop : tie.MeasureT-loop
 μ-loop s plains₀ negated₀ clauses literals-at start₀ i₀ plains negated start i = clauses - i
 
 -- what is known of an accepted sheet
-sized : (c : tie.After-slice-known2 Inv-loop μ-loop) → Placed (c .before .before .before .args .s .now)
+sized : (c : tie.After-slice-known2 Inv-loop μ-loop) → Whole (c .before .before .before .args .s .now)
 sized c = passed _ (c .before .before .before .pre .0) .sized
 
 few : (c : tie.After-word-at Inv-loop μ-loop) → (c .word-at .result ≤ 1024) × (32 + 4 * c .word-at .result ≤ length (c .before .before .before .before .args .s .now))
@@ -59,10 +59,10 @@ ends c =
 
 bytes-are : (c : tie.After-word-at2 Inv-loop μ-loop) → let l = c .before .before in
     let s = l .before .before .before .before .before .args .s .now in
-    part (32 + 4 * l .before .word-at .result + l .loop .start) (32 + 4 * l .before .word-at .result + c .word-at2 .result) s ≡ clauseBytes s (l .loop .i)
+    span (32 + 4 * l .before .word-at .result + l .loop .start) (32 + 4 * l .before .word-at .result + c .word-at2 .result) s ≡ clauseBytes s (l .loop .i)
 bytes-are c =
     let l = c .before .before in
-    λ k. part (32 + 4 * l .before .word-at .ensures k + l .loop .inv .1 k) (32 + 4 * l .before .word-at .ensures k + c .word-at2 .ensures k) (l .before .before .before .before .before .args .s .now)
+    λ k. span (32 + 4 * l .before .word-at .ensures k + l .loop .inv .1 k) (32 + 4 * l .before .word-at .ensures k + c .word-at2 .ensures k) (l .before .before .before .before .before .args .s .now)
 
 -- there is a place for its sets
 room : (c : tie.In-loop Inv-loop μ-loop) → let l = c .before in

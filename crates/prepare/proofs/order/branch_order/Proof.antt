@@ -1,19 +1,19 @@
--- `sheet::order::branch_order`: the objectives first, then the atoms; it is as long as there are atoms, since it names each once. Assumes nothing.
+-- `prepare::order::branch_order`: the objectives first, then the atoms; it is as long as there are atoms, since it names each once. Assumes nothing.
 use Prim.Native.Nat.{ℕ, _≤_}
 use mathlib.Core.List.{List, [], _++_, map}
 use mathlib.Core.Path.{ap, _∙_, subst}
 use native.Mathlib.Omega.{arith}
 use lib.ListN.{length, drop}
 use borrow.Author.Needs.{needs}
-use Rattle.sheet.proofs.BranchLaws.{branch-is}
+use Rattle.prepare.proofs.OrderLaws.{branch-is}
+use Rattle.prepare.specs.Carried.{Ordered}
 use Rattle.sheet.proofs.EachOnce.{objectives-literals, names-each-once}
 use Rattle.sheet.proofs.Understood.{passed, objective-bytes-counted}
-use Rattle.sheet.proofs.order.branch_order.Statement.{statement}
-use Rattle.sheet.proofs.order.branch_order.Tie as tie
+use Rattle.prepare.proofs.order.branch_order.Statement.{statement}
+use Rattle.prepare.proofs.order.branch_order.Tie as tie
 use Rattle.sheet.specs.Literals.{Lit, literal, isLiteral, byteOf}
-use Rattle.sheet.specs.Order.{takingAll, ascending, branch}
-use Rattle.sheet.specs.Passed.{Ordered}
+use Rattle.sheet.specs.Order.{takingAll, branch, upTo}
 use Rattle.sheet.specs.Reading.{sheetOf}
 use Rattle.words.specs.Lists.{all}
 
 few-atoms : (c : tie.After-word-at) → c .word-at .result ≤ 64
@@ -56,7 +56,7 @@ returns c =
     let s = u .before .before .before .before .before in
     let ordered : Ordered (branch (sheetOf (s .args .s .now))) (s .args .order .now) (r .result) (r .last .0) =
     subst (λ (so : List Lit). Ordered so (s .args .order .now) (r .result) (r .last .0))
-    ((λ i. takingAll (takingAll [] (map literal (u .before .objectives .ensures i))) (ascending (w .word-at .ensures i))) ∙ branch-is (s .args .s .now))
+    ((λ i. takingAll (takingAll [] (map literal (u .before .objectives .ensures i))) (upTo (w .word-at .ensures i))) ∙ branch-is (s .args .s .now))
     (r .ensures _ _ (u .take-objectives .ensures .0)) in
     ordered .written
     ∙ ap (λ (k : ℕ). map byteOf (branch (sheetOf (s .args .s .now))) ++ drop k (s .args .order .now)) (ordered .counted ∙ names-each-once _ (s .pre .0) .counted)

@@ -1,16 +1,16 @@
--- `sheet::order::take_objectives`: after i turns the order is that of the first i objectives. Assumes nothing.
+-- `prepare::order::take_objectives`: after i turns the order is that of the first i objectives. Assumes nothing.
 use Prim.Native.Nat.{ℕ, _-_, _≤_}
 use mathlib.Core.List.{List, [], map}
 use mathlib.Core.Path.{_≡_, refl, sym, _∙_, subst}
 use native.Mathlib.Omega.{arith}
 use lib.ListN.{length, take}
 use lib.Seq.{take-all}
-use Rattle.sheet.proofs.BranchLaws.{nothing-ordered, taking-next}
-use Rattle.sheet.proofs.order.take_objectives.Statement.{statement}
-use Rattle.sheet.proofs.order.take_objectives.Tie as tie
+use Rattle.prepare.proofs.OrderLaws.{nothing-ordered, taking-next}
+use Rattle.prepare.proofs.order.take_objectives.Statement.{statement}
+use Rattle.prepare.proofs.order.take_objectives.Tie as tie
+use Rattle.prepare.specs.Carried.{Ordered}
 use Rattle.sheet.specs.Literals.{Lit, literal, isLiteral}
 use Rattle.sheet.specs.Order.{takingAll}
-use Rattle.sheet.specs.Passed.{Ordered}
 use Rattle.words.proofs.Members.{all-out, mem-at}
 
 abbrev Inv-loop : tie.InvT-loop

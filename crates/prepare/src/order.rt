@@ -5,14 +5,14 @@ ghost use mathlib.Core.List.{List, [], _++_, map};
 ghost use Prim.Native.Nat.{ℕ, _+_, _≤_, _<_};
 ghost use lib.ListN.{length, drop};
 ghost use Rattle.words.specs.Lists.{all};
 ghost use Rattle.sheet.specs.Literals.{Lit, literal, isLiteral, byteOf};
 ghost use Rattle.sheet.specs.Layout.{atomCount, objectiveBytes};
 ghost use Rattle.sheet.specs.Reading.{sheetOf, Accepted};
-ghost use Rattle.sheet.specs.Order.{taking, takingAll, ascending, branch};
-ghost use Rattle.sheet.specs.Passed.{Ordered};
-use crate::bytes::word_at;
-use crate::literal::Literal;
-use crate::literal::literal_of;
+ghost use Rattle.sheet.specs.Order.{taking, takingAll, branch, upTo};
+ghost use Rattle.prepare.specs.Carried.{Ordered};
+use sheet::bytes::word_at;
+use sheet::literal::Literal;
+use sheet::literal::literal_of;
 
 // How far the order is: the atoms that it names, and how many they are.
 pub struct Named {
@@ -70,7 +70,7 @@ fn take_objectives(order: &mut [u8], bytes: &[u8]) -> Named
 // Goes on with the atoms 1 to n.
 fn take_atoms(order: &mut [u8], begun: Named, n: u8) -> Named
     requires { ⌜ (n ≤ 64) × (begun .count + n ≤ length (now order)) ⌝ }
-    ensures { λ r. ⌜ ((so : List Lit) (before : List ℕ) → Ordered so before begun (now (order .entry)) → Ordered (takingAll so (ascending n)) before r (now (order .exit))) ⌝ }
+    ensures { λ r. ⌜ ((so : List Lit) (before : List ℕ) → Ordered so before begun (now (order .entry)) → Ordered (takingAll so (upTo n)) before r (now (order .exit))) ⌝ }
 {
     let mut o = begun;
     let mut a = 0u8;

@@ -1,16 +1,16 @@
--- `sheet::order::take_literal`: the set tells whether the order names the literal's atom. Assumes nothing.
+-- `prepare::order::take_literal`: the set tells whether the order names the literal's atom. Assumes nothing.
 use Prim.Native.Nat.{ℕ, _-_, _≤_}
 use mathlib.Core.Bool.{Bool, false≢true}
 use mathlib.Core.Path.{_≡_, sym, ap, _∙_, subst}
 use native.Mathlib.Omega.{arith}
 use borrow.Author.Needs.{needs}
 use lib.Dec.{lit≤}
-use Rattle.sheet.proofs.BranchLaws.{keeps, puts}
+use Rattle.prepare.proofs.OrderLaws.{keeps, puts}
 use Rattle.sheet.proofs.Literals.{byte-of-literal}
 use Rattle.sheet.proofs.Numbers.{answered-neither, Told, told-of}
-use Rattle.sheet.proofs.order.take_literal.Statement.{statement}
-use Rattle.sheet.proofs.order.take_literal.Tie as tie
+use Rattle.prepare.proofs.order.take_literal.Statement.{statement}
+use Rattle.prepare.proofs.order.take_literal.Tie as tie
 use Rattle.sheet.specs.Literals.{atom, literal, byteOf}
 use Rattle.words.specs.Positions.{has, adding}
 
 told : (c : tie.After-atom) → Told 64 (c .before .before .before .before .args .b) (c .atom .given .0 .0) (c .atom .given .0 .1 .0)

@@ -1,16 +1,16 @@
--- `sheet::clauses::with_literal`: the atom goes into the set of the literal's sign. Assumes nothing.
+-- `prepare::clauses::with_literal`: the atom goes into the set of the literal's sign. Assumes nothing.
 use mathlib.Core.Bool.{Bool, cond, false≢true}
 use mathlib.Core.List.{_∷_}
 use mathlib.Core.Path.{_≡_, sym, ap, _∙_}
 use native.Mathlib.Omega.{arith}
 use borrow.Author.Needs.{needs}
 use lib.Dec.{lit≤}
-use Rattle.sheet.proofs.ClauseLaws.{with-plain, with-negated}
+use Rattle.prepare.proofs.SetLaws.{with-plain, with-negated}
+use Rattle.prepare.specs.Carried.{setsOf}
 use Rattle.sheet.proofs.Numbers.{answered-neither, Told, told-of, told-literal}
-use Rattle.sheet.proofs.clauses.with_literal.Statement.{statement}
-use Rattle.sheet.proofs.clauses.with_literal.Tie as tie
-use Rattle.sheet.specs.Answers.{setsOf}
+use Rattle.prepare.proofs.clauses.with_literal.Statement.{statement}
+use Rattle.prepare.proofs.clauses.with_literal.Tie as tie
 use Rattle.sheet.specs.Literals.{Lit, pos, neg, literal}
 
 told : (c : tie.After-plain) → Told 64 (c .before .before .before .args .b) (c .plain .given .0 .0) (c .plain .given .0 .1 .0)
 told c =

@@ -1,15 +1,15 @@
--- `sheet::order::objectives`: the part that is handed back is that of the objectives. Assumes nothing.
+-- `prepare::order::objectives`: the part that is handed back is that of the objectives. Assumes nothing.
 use Prim.Native.Nat.{_+_, _*_}
 use mathlib.Core.Path.{_≡_}
 use native.Mathlib.Omega.{arith}
 use borrow.Author.Needs.{needs}
 use Rattle.sheet.proofs.Understood.{passed}
-use Rattle.sheet.proofs.order.objectives.Statement.{statement}
-use Rattle.sheet.proofs.order.objectives.Tie as tie
-use Rattle.sheet.specs.Layout.{part, objectivesAt}
-use Rattle.sheet.specs.Passed.{Placed}
+use Rattle.prepare.proofs.order.objectives.Statement.{statement}
+use Rattle.prepare.proofs.order.objectives.Tie as tie
+use Rattle.sheet.specs.Layout.{span, objectivesAt}
+use Rattle.sheet.specs.Passed.{Whole}
 
-sized : (c : tie.After-shared-slice-known) → Placed (c .before .args .s .now)
+sized : (c : tie.After-shared-slice-known) → Whole (c .before .args .s .now)
 sized c = passed _ (c .before .pre) .sized
 
 word-at-requires : tie.Need-word-at-requires
@@ -58,7 +58,7 @@ returns : tie.Need-returns
 returns c =
     let u = c .before in
     let from : _ ≡ objectivesAt _ = λ i. 32 + 4 * u .before .before .word-at .ensures i + u .before .word-at2 .ensures i in
-    λ i. part (from i) (from i + u .word-at3 .ensures i) (u .before .before .before .before .args .s .now)
+    λ i. span (from i) (from i + u .word-at3 .ensures i) (u .before .before .before .before .args .s .now)
 
 pub objectives-spec : {M : Type 1} → statement M
 objectives-spec =

@@ -1,16 +1,15 @@
--- `sheet::clauses::clause_of`: going back from the end, the clause so far is that of the bytes from i on. Assumes nothing.
+-- `prepare::clauses::clause_of`: going back from the end, the clause so far is that of the bytes from i on. Assumes nothing.
 use Prim.Native.Nat.{ℕ, _+_, _-_, _≤_}
 use mathlib.Core.List.{List, _∷_, map}
 use mathlib.Core.Path.{_≡_, sym, ap, _∙_}
 use native.Mathlib.Omega.{arith}
 use lib.ListN.{length, drop}
 use lib.Seq.{drop-length}
-use Rattle.sheet.proofs.clauses.clause_of.Statement.{statement}
-use Rattle.sheet.proofs.clauses.clause_of.Tie as tie
-use Rattle.sheet.specs.Answers.{setsOf}
+use Rattle.prepare.proofs.clauses.clause_of.Statement.{statement}
+use Rattle.prepare.proofs.clauses.clause_of.Tie as tie
+use Rattle.prepare.specs.Carried.{setsOf, negated}
 use Rattle.sheet.specs.Layout.{byte}
-use Rattle.sheet.specs.Literals.{literal, isLiteral}
-use Rattle.sheet.specs.Order.{plains, negated}
+use Rattle.sheet.specs.Literals.{literal, isLiteral, plains}
 use Rattle.words.proofs.Lists.{onward}
 use Rattle.words.proofs.Members.{all-out, mem-at}
 use Rattle.words.specs.Positions.{setOf}

@@ -1,0 +1,3 @@
+-- What the proofs of several functions use, in this crate and above it.
+pub mod SetLaws
+pub mod OrderLaws
