@@ -20,12 +20,12 @@ visit-holds {P = P} {Q = Q} cut allowance n p q = go (ltb n allowance) refl
     go false e = rw (e, visit) (gone (q (ltb-false n allowance e)))
 
 pub meet-holds : (g : Game) (c m n : ℕ) {P : ℕ → Type 0} {Q : ℕ → Stop → Type 0}
-    → (g .above (g .part m) (g .part c) ≡ true → Q n (found (g .part m)))
-    → (g .above (g .part m) (g .part c) ≡ false → P n) → Holds P Q (meet g c m n)
+    → (g .worse (g .part c) (g .part m) ≡ true → Q n (found (g .part m)))
+    → (g .worse (g .part c) (g .part m) ≡ false → P n) → Holds P Q (meet g c m n)
 unfolding meet
-meet-holds g c m n {P} {Q} q p = go (g .above (g .part m) (g .part c)) refl
+meet-holds g c m n {P} {Q} q p = go (g .worse (g .part c) (g .part m)) refl
   where
-    go : (b : Bool) → g .above (g .part m) (g .part c) ≡ b → Holds P Q (meet g c m n)
+    go : (b : Bool) → g .worse (g .part c) (g .part m) ≡ b → Holds P Q (meet g c m n)
     go true e = rw (e, meet) (gone (q e))
     go false e = rw (e, meet) (going (p e))
 
@@ -63,14 +63,14 @@ module _ {P : State → Type 0} {Q : State → Answer → Type 0} (places m : �
   settle-holds s (gone {s = n} {a = found p} h) = store-holds places p (withSteps s n) (h .0) (h .1)
 
   pub judge-holds : (g : Game) (allowance : ℕ) (s : State)
-      → (any (λ p. g .above p (g .part m)) (s .stored) ≡ true → P s)
-      → (any (λ p. g .above p (g .part m)) (s .stored) ≡ false
+      → (any (g .worse (g .part m)) (s .stored) ≡ true → P s)
+      → (any (g .worse (g .part m)) (s .stored) ≡ false
       → Holds (λ n. Q (withSteps (withTest s) n) (Yes m)) (Settled P Q places (withTest s)) (test g allowance m (s .steps)))
       → Holds P Q (judge g allowance places m s)
   unfolding judge
-  judge-holds g allowance s p q = go (any (λ p. g .above p (g .part m)) (s .stored)) refl
+  judge-holds g allowance s p q = go (any (g .worse (g .part m)) (s .stored)) refl
     where
-      go : (b : Bool) → any (λ p. g .above p (g .part m)) (s .stored) ≡ b → Holds P Q (judge g allowance places m s)
+      go : (b : Bool) → any (g .worse (g .part m)) (s .stored) ≡ b → Holds P Q (judge g allowance places m s)
       go true e = rw (e, judge) (going (p e))
       go false e = rw (e, judge) (settle-holds (withTest s) (q e))
 

@@ -7,54 +7,49 @@ use mathlib.Core.Path.{_≡_, refl, sym, ap, _∙_, subst}
 use native.Mathlib.Omega.{arith}
 use lib.ListN.{length, length-append}
 use Rattle.search.proofs.Actions.{visit-holds, meet-holds, candidate-holds, Settled, judge-holds, finished}
-use Rattle.search.proofs.Fair.{tops, Fair, Unbeaten, FirstUnbeaten, Says, Within}
-use Rattle.search.proofs.Past.{Past, past-none, past-map, past-all, past-one, past-next, above-past}
-use Rattle.search.proofs.Picking.{distinct-in, distinct-out, each-snoc, Among, among-none, among-snoc, among-length}
+use Rattle.search.proofs.Fair.{tops, Fair, Unbeaten, FirstUnbeaten, Tells, Within}
+use Rattle.search.proofs.Past.{Past, past-none, past-map, past-all, past-one, past-next, better-past}
+use Rattle.search.proofs.Picking.{top-in, top-out, each-snoc, Among, among-none, among-snoc, among-length}
 use Rattle.search.proofs.Walking.{Holds, holds-map, walk-holds}
 use Rattle.search.specs.Search.{Game, State, Answer, Yes, No, Cut, NoPlace, Stop, spent, found, withTest, test, judge, search, start, answered, ended}
 use Rattle.search.specs.Tree.{leaves}
-use Rattle.words.proofs.Members.{pick-in, pick-out, any-out, any-none}
+use Rattle.words.proofs.Members.{any-out, any-none}
 use Rattle.words.specs.Lists.{any}
 
 -- ---- the distinct maximal parts
 
 module _ (g : Game) (ms : List ℕ) where
-  tops-in : (m : ℕ) → Mem m ms → ((u : ℕ) → Mem u ms → g .above (g .part u) (g .part m) ≡ true → ⊥) → Mem (g .part m) (tops g ms)
-  tops-in m h top = distinct-in _ _ (pick-in _ _ _ (map-mem (g .part) h) (free (any (λ q. g .above q (g .part m)) (map (g .part) ms)) refl))
-    where
-      free : (b : Bool) → any (λ q. g .above q (g .part m)) (map (g .part) ms) ≡ b → not b ≡ true
-      free true e =
-          let w = any-out (λ q. g .above q (g .part m)) (map (g .part) ms) e in
-          let u = of-map (g .part) ms (w .1) in
-          absurd (top (u .0) (u .1) (ap (λ p. g .above p (g .part m)) (u .2) ∙ w .2))
-      free false e = refl
+  tops-in : (m : ℕ) → Mem m ms → ((u : ℕ) → Mem u ms → g .worse (g .part m) (g .part u) ≡ true → ⊥) → Mem (g .part m) (tops g ms)
+  tops-in m h top = top-in (g .worse) (map (g .part) ms) (g .part m) (map-mem (g .part) h) λ q k t.
+      let u = of-map (g .part) ms k in
+      top (u .0) (u .1) (ap (g .worse (g .part m)) (u .2) ∙ t)
 
   tops-out : (p : ℕ) → Mem p (tops g ms) → (m : ℕ) × Mem m ms × (g .part m ≡ p)
-  tops-out p h = of-map (g .part) ms (pick-out _ _ p (distinct-out _ p h) .0)
+  tops-out p h = of-map (g .part) ms (top-out (g .worse) (map (g .part) ms) p h .0)
 
 module _ (g : Game) (affirming denying : List ℕ) (fair : Fair g affirming denying) (allowance places : ℕ) where
   -- ---- a test
 
-  -- no denying model is above c
+  -- no denying model is better than c
   abbrev Undenied : ℕ → Type 0
-  Undenied c = (u : ℕ) → Mem u denying → g .above (g .part u) (g .part c) ≡ true → ⊥
+  Undenied c = (u : ℕ) → Mem u denying → g .worse (g .part c) (g .part u) ≡ true → ⊥
 
-  -- a part that a test of c finds is above c's, and a maximal one
+  -- a part that a test of c finds is better than c's, and a maximal one
   abbrev Finds : ℕ → Stop → Type 0
   Finds c spent = Unit {0}
-  Finds c (found p) = (g .above p (g .part c) ≡ true) × Mem p (tops g denying)
+  Finds c (found p) = (g .worse (g .part c) p ≡ true) × Mem p (tops g denying)
 
-  -- the rivals of c that the test has passed are not above c
+  -- the rivals of c that the test has passed are not better than c
   abbrev Rivals : ℕ → List ℕ → Type 0
-  Rivals c = Past (leaves (g .rivals c)) (λ u. g .above (g .part u) (g .part c) ≡ true → ⊥)
+  Rivals c = Past (leaves (g .rivals c)) (λ u. g .worse (g .part c) (g .part u) ≡ true → ⊥)
 
-  -- Whatever is above the first part found is above c too, hence a rival, hence passed: there is none.
-  first-found : {c m : ℕ} {rest : List ℕ} → Rivals c (m ∷ rest) → g .above (g .part m) (g .part c) ≡ true
+  -- Whatever is better than the first part found is better than c too, hence a rival, hence passed: there is none.
+  first-found : {c m : ℕ} {rest : List ℕ} → Rivals c (m ∷ rest) → g .worse (g .part c) (g .part m) ≡ true
       → Mem (g .part m) (tops g denying)
   first-found {c} {m} h a =
       tops-in g denying m (fair .rivalsDeny c m (past-next h)) λ u d b.
-      let over : g .above (g .part u) (g .part c) ≡ true = fair .transitive _ _ _ b a in
-      above-past g (fair .irreflexive) (fair .rivalsOrdered c) h u (fair .denyingWalked c u d over) b over
+      let over : g .worse (g .part c) (g .part u) ≡ true = fair .transitive _ _ _ a b in
+      better-past g (fair .irreflexive) (fair .rivalsOrdered c) h u (fair .denyingWalked c u d over) b over
 
   test-finds : (c n : ℕ) → Holds (λ k. Undenied c) (λ k. Finds c) (test g allowance c n)
   unfolding test
@@ -69,7 +64,7 @@ module _ (g : Game) (affirming denying : List ℕ) (fair : Fair g affirming deny
 
   -- the part q lies inside a stored part
   abbrev Inside : List ℕ → ℕ → Type 0
-  Inside stored q = (p : ℕ) × Mem p stored × (g .above p q ≡ true)
+  Inside stored q = (p : ℕ) × Mem p stored × (g .worse q p ≡ true)
 
   -- the parts stored are distinct maximal ones of denying models, and so are the parts tested of affirming models
   record Counted (tests : ℕ) (stored : List ℕ) : Type 0 where
@@ -95,14 +90,14 @@ module _ (g : Game) (affirming denying : List ℕ) (fair : Fair g affirming deny
   Going rest s = Sound rest (s .tests) (s .stored)
 
   abbrev Ended : State → Answer → Type 0
-  Ended s x = Counted (s .tests) (s .stored) × Says g affirming denying x × Room x
+  Ended s x = Counted (s .tests) (s .stored) × Tells g affirming denying x × Room x
 
   -- what lies inside a stored part is beaten by the denying model that has that part
   inside-beaten : {tests : ℕ} {stored : List ℕ} → Counted tests stored
       → (m : ℕ) → Inside stored (g .part m) → Unbeaten g affirming denying m → ⊥
   inside-beaten c m w best =
       let u = tops-out g denying (w .0) (c .denied .from (w .0) (w .1)) in
-      best (u .0) (inr (u .1)) (ap (λ p. g .above p (g .part m)) (u .2) ∙ w .2)
+      best (u .0) (inr (u .1)) (ap (λ p. g .worse (g .part m) p) (u .2) ∙ w .2)
 
   -- the next candidate m lies inside no stored part
   module _ {m : ℕ} {rest : List ℕ} {tests : ℕ} {stored : List ℕ} (h : Sound (m ∷ rest) tests stored)
@@ -110,11 +105,11 @@ module _ (g : Game) (affirming denying : List ℕ) (fair : Fair g affirming deny
     affirms : Mem m affirming
     affirms = fair .candidatesAffirm m (past-next (h .passed))
 
-    -- an affirming model above m would have been passed, and m would lie inside the same stored part
-    unaffirmed : (u : ℕ) → Mem u affirming → g .above (g .part u) (g .part m) ≡ true → ⊥
+    -- an affirming model better than m would have been passed, and m would lie inside the same stored part
+    unaffirmed : (u : ℕ) → Mem u affirming → g .worse (g .part m) (g .part u) ≡ true → ⊥
     unaffirmed u k a =
-        let w = above-past g (fair .irreflexive) (fair .candidatesOrdered) (h .passed) u (fair .affirmingWalked u k) a in
-        free (w .0, w .1, fair .transitive _ _ _ (w .2) a)
+        let w = better-past g (fair .irreflexive) (fair .candidatesOrdered) (h .passed) u (fair .affirmingWalked u k) a in
+        free (w .0, w .1, fair .transitive _ _ _ a (w .2))
 
     -- the test of m is counted
     counted-more : Counted (tests + 1) stored
@@ -139,7 +134,7 @@ module _ (g : Game) (affirming denying : List ℕ) (fair : Fair g affirming deny
         }
 
     -- the test of m finds p
-    module _ {p : ℕ} (a : g .above p (g .part m) ≡ true) (top : Mem p (tops g denying)) where
+    module _ {p : ℕ} (a : g .worse (g .part m) p ≡ true) (top : Mem p (tops g denying)) where
       denied-more : Among (tops g denying) (stored ++ (p ∷ []))
       denied-more = among-snoc (h .counted .denied) top (λ k. free (p, k, a))
 
@@ -168,7 +163,7 @@ module _ (g : Game) (affirming denying : List ℕ) (fair : Fair g affirming deny
       (λ e. record { counted = h .counted; passed = past-one (h .passed) (any-out _ (s .stored) e); settled = h .settled })
       (λ e. holds-map (λ n u. (counted-more h (free e), first-unbeaten h (free e) u, tt)) (stopped (free e)) (test-finds m (s .steps)))
     where
-      free : any (λ p. g .above p (g .part m)) (s .stored) ≡ false → Inside (s .stored) (g .part m) → ⊥
+      free : any (g .worse (g .part m)) (s .stored) ≡ false → Inside (s .stored) (g .part m) → ⊥
       free e w = false≢true (sym (any-none _ (s .stored) e (w .0) (w .1)) ∙ w .2)
 
       stopped : (Inside (s .stored) (g .part m) → ⊥) → (n : ℕ) (x : Stop) → Finds m x → Settled (Going rest) Ended places (withTest s) n x
@@ -192,7 +187,7 @@ module _ (g : Game) (affirming denying : List ℕ) (fair : Fair g affirming deny
 
   -- ---- what the search promises
 
-  pub says : Says g affirming denying (answered (search g allowance places))
+  pub says : Tells g affirming denying (answered (search g allowance places))
   says = search-ends .1
 
   pub counted : Within g affirming denying (ended (search g allowance places))

@@ -11,30 +11,30 @@ use Rattle.search.specs.Search.{Game, State, Answer, Yes, No, Cut, NoPla
 use Rattle.search.specs.Tree.{leaves}
 
 module _ (g : Game) where
-  -- no later model's part is above an earlier one's
-  abbrev pub Ordered : List ℕ → Type 0
-  Ordered [] = Unit {0}
-  Ordered (x ∷ xs) = ((y : ℕ) → Mem y xs → g .above (g .part y) (g .part x) ≡ true → ⊥) × Ordered xs
+  -- no later model's part is better than an earlier one's
+  abbrev pub BestFirst : List ℕ → Type 0
+  BestFirst [] = Unit {0}
+  BestFirst (x ∷ xs) = ((y : ℕ) → Mem y xs → g .worse (g .part x) (g .part y) ≡ true → ⊥) × BestFirst xs
 
   -- the distinct maximal parts of some models
   abbrev pub tops : List ℕ → List ℕ
-  tops ms = distinct (topmost (g .above) (map (g .part) ms))
+  tops ms = distinct (topmost (g .worse) (map (g .part) ms))
 
   module _ (affirming denying : List ℕ) where
-    -- The trees hold the affirming models, and the denying models that can be above a candidate, in order.
+    -- The trees hold the affirming models, and the denying models that can be better than a candidate, in order.
     pub record Fair : Type 0 where
-      pub irreflexive : (p : ℕ) → g .above p p ≡ true → ⊥
-      pub transitive : (p q r : ℕ) → g .above p q ≡ true → g .above q r ≡ true → g .above p r ≡ true
-      pub candidatesOrdered : Ordered (leaves (g .candidates))
-      pub rivalsOrdered : (c : ℕ) → Ordered (leaves (g .rivals c))
+      pub irreflexive : (p : ℕ) → g .worse p p ≡ true → ⊥
+      pub transitive : (p q r : ℕ) → g .worse p q ≡ true → g .worse q r ≡ true → g .worse p r ≡ true
+      pub candidatesOrdered : BestFirst (leaves (g .candidates))
+      pub rivalsOrdered : (c : ℕ) → BestFirst (leaves (g .rivals c))
       pub candidatesAffirm : (m : ℕ) → Mem m (leaves (g .candidates)) → Mem m affirming
       pub affirmingWalked : (m : ℕ) → Mem m affirming → Mem m (leaves (g .candidates))
       pub rivalsDeny : (c m : ℕ) → Mem m (leaves (g .rivals c)) → Mem m denying
-      pub denyingWalked : (c m : ℕ) → Mem m denying → g .above (g .part m) (g .part c) ≡ true → Mem m (leaves (g .rivals c))
+      pub denyingWalked : (c m : ℕ) → Mem m denying → g .worse (g .part c) (g .part m) ≡ true → Mem m (leaves (g .rivals c))
 
-    -- no model at all has a part above m's
+    -- no model at all has a better part than m
     abbrev pub Unbeaten : ℕ → Type 0
-    Unbeaten m = (u : ℕ) → Mem u affirming ⊎ Mem u denying → g .above (g .part u) (g .part m) ≡ true → ⊥
+    Unbeaten m = (u : ℕ) → Mem u affirming ⊎ Mem u denying → g .worse (g .part m) (g .part u) ≡ true → ⊥
 
     -- m is the first candidate that nothing beats
     pub record FirstUnbeaten (m : ℕ) : Type 0 where
@@ -45,12 +45,12 @@ module _ (g : Game) where
       pub place : leaves (g .candidates) ≡ before ++ m ∷ after
       pub none : (u : ℕ) → Mem u before → Unbeaten u → ⊥
 
-    -- what an answer says
-    abbrev pub Says : Answer → Type 0
-    Says (Yes m) = FirstUnbeaten m
-    Says No = (m : ℕ) → Mem m affirming → Unbeaten m → ⊥
-    Says Cut = Unit {0}
-    Says NoPlace = Unit {0}
+    -- what an answer tells
+    abbrev pub Tells : Answer → Type 0
+    Tells (Yes m) = FirstUnbeaten m
+    Tells No = (m : ℕ) → Mem m affirming → Unbeaten m → ⊥
+    Tells Cut = Unit {0}
+    Tells NoPlace = Unit {0}
 
     -- what the counts stay within
     pub record Within (s : State) : Type 0 where

@@ -103,9 +103,9 @@ module _ (g : Game) (a b places : ℕ) (le : a ≤ b) where
 
   judge-agree : (m : ℕ) (s : State) → Agree Cut Beyond (judge g a places m s) (judge g b places m s)
   unfolding judge
-  judge-agree m s = go (any (λ p. g .above p (g .part m)) (s .stored)) refl
+  judge-agree m s = go (any (g .worse (g .part m)) (s .stored)) refl
     where
-      go : (x : Bool) → any (λ p. g .above p (g .part m)) (s .stored) ≡ x
+      go : (x : Bool) → any (g .worse (g .part m)) (s .stored) ≡ x
           → Agree Cut Beyond (judge g a places m s) (judge g b places m s)
       go true e = rw (e, judge) same
       go false e = rw (e, judge) (settle-agree m (withTest s) (test-agree m (s .steps)))

@@ -1,15 +1,16 @@
 -- The full nodes of a grown tree are the models of its clauses. Assumes nothing.
-use Prim.Native.Nat.{ℕ, _^_, _≤_, _<_}
+use Prim.Native.Nat.{ℕ, _≤_}
 use mathlib.Core.Bool.{Bool, true, false, not}
 use mathlib.Core.List.{List, [], _∷_, _++_, map, map-append, append-nil, append-assoc, List·Memᴰ as Mem, List·Memᴰ·head as head, List·Memᴰ·not-nil as not-nil, List·Memᴰ·append-cases as append-cases, List·Memᴰ·eq-of-singleton as eq-of-singleton, Memᴰ·cast as cast, Memᴰ·append-left as append-left, Memᴰ·append-right as append-right, Memᴰ·of-map as of-map}
 use mathlib.Core.Logic.{⊎-elim}
 use mathlib.Core.Path.{_≡_, refl, sym, ap, _∙_, subst}
-use Rattle.search.proofs.Nodes.{complement-atom, holds-complement, Agrees, satisfied-open, open-satisfied, Spread, plains-fits, plains-agrees, one-word}
-use Rattle.search.specs.Grown.{Node, isClosed, grow}
-use Rattle.search.specs.Models.{holds, satisfies}
+use Rattle.search.proofs.Closing.{Closing}
+use Rattle.search.proofs.Nodes.{complement-atom, holds-complement, Agrees, Spread, plains-valued, plains-agrees, one-word}
+use Rattle.search.specs.Grown.{Node, grow}
+use Rattle.search.specs.Models.{holds, satisfies, valuations}
 use Rattle.search.specs.Tree.{leaves}
 use Rattle.sheet.proofs.EachOnce.{NamesEachOnce}
-use Rattle.sheet.specs.Literals.{Lit, atom, complement, plains}
+use Rattle.sheet.specs.Literals.{Lit, complement, atom, plains}
 
 -- the atoms of a node w and of the literals still to be tried below it
 abbrev pub atomsOf : Node → List Lit → List ℕ
@@ -21,20 +22,20 @@ atoms-child w l y ls e =
     ap (λ (xs : List ℕ). xs ++ map atom ls) (map-append atom w (y ∷ []))
     ∙ append-assoc (map atom w) (atom y ∷ []) (map atom ls) ∙ ap (λ (a : ℕ). map atom w ++ (a ∷ map atom ls)) e
 
-module _ (cs : List (List Lit)) where
+module _ (closes : Node → Bool) where
   -- ---- the full nodes by the closing test
 
-  pub leaves-closed : (ls : List Lit) (w : Node) → isClosed cs w ≡ true → leaves (grow cs ls w) ≡ []
+  pub leaves-closed : (ls : List Lit) (w : Node) → closes w ≡ true → leaves (grow closes ls w) ≡ []
   unfolding grow
   leaves-closed [] w e = rw (e, grow)
   leaves-closed (l ∷ ls) w e = rw (e, grow)
 
-  pub leaves-full : (w : Node) → isClosed cs w ≡ false → leaves (grow cs [] w) ≡ plains w ∷ []
+  pub leaves-full : (w : Node) → closes w ≡ false → leaves (grow closes [] w) ≡ plains w ∷ []
   unfolding grow
   leaves-full w e = rw (e, grow)
 
-  pub leaves-fork : (l : Lit) (ls : List Lit) (w : Node) → isClosed cs w ≡ false
-      → leaves (grow cs (l ∷ ls) w) ≡ leaves (grow cs ls (w ++ (l ∷ []))) ++ leaves (grow cs ls (w ++ (complement l ∷ [])))
+  pub leaves-fork : (l : Lit) (ls : List Lit) (w : Node) → closes w ≡ false
+      → leaves (grow closes (l ∷ ls) w) ≡ leaves (grow closes ls (w ++ (l ∷ []))) ++ leaves (grow closes ls (w ++ (complement l ∷ [])))
   unfolding grow
   leaves-fork l ls w e = rw (e, grow)
 
@@ -46,12 +47,12 @@ module _ (cs : List (List Lit)) where
     keeps : (l : Lit) → Mem l w → Mem l node
     decides : map atom node ≡ atoms
     is : m ≡ plains node
-    stays : isClosed cs node ≡ false
+    stays : closes node ≡ false
 
-  leaf-extends : (ls : List Lit) (w : Node) (m : ℕ) → Mem m (leaves (grow cs ls w)) → Extends w (atomsOf w ls) m
-  leaf-extends [] w m h = go (isClosed cs w) refl
+  leaf-extends : (ls : List Lit) (w : Node) (m : ℕ) → Mem m (leaves (grow closes ls w)) → Extends w (atomsOf w ls) m
+  leaf-extends [] w m h = go (closes w) refl
     where
-      go : (b : Bool) → isClosed cs w ≡ b → Extends w (atomsOf w []) m
+      go : (b : Bool) → closes w ≡ b → Extends w (atomsOf w []) m
       go true e = absurd (not-nil (subst (Mem m) (leaves-closed [] w e) h))
       go false e =
           record {
@@ -61,7 +62,7 @@ module _ (cs : List (List Lit)) where
             is = eq-of-singleton (subst (Mem m) (leaves-full w e) h);
             stays = e;
           }
-  leaf-extends (l ∷ ls) w m h = go (isClosed cs w) refl (λ y e k. child y e (leaf-extends ls (w ++ (y ∷ [])) m k))
+  leaf-extends (l ∷ ls) w m h = go (closes w) refl (λ y e k. child y e (leaf-extends ls (w ++ (y ∷ [])) m k))
     where
       child : (y : Lit) → atom y ≡ atom l → Extends (w ++ (y ∷ [])) (atomsOf (w ++ (y ∷ [])) ls) m → Extends w (atomsOf w (l ∷ ls)) m
       child y e u =
@@ -73,37 +74,38 @@ module _ (cs : List (List Lit)) where
             stays = u .stays;
           }
 
-      go : (b : Bool) → isClosed cs w ≡ b → ((y : Lit) → atom y ≡ atom l → Mem m (leaves (grow cs ls (w ++ (y ∷ [])))) → Extends w (atomsOf w (l ∷ ls)) m)
+      go : (b : Bool) → closes w ≡ b → ((y : Lit) → atom y ≡ atom l → Mem m (leaves (grow closes ls (w ++ (y ∷ [])))) → Extends w (atomsOf w (l ∷ ls)) m)
           → Extends w (atomsOf w (l ∷ ls)) m
       go true e below = absurd (not-nil (subst (Mem m) (leaves-closed (l ∷ ls) w e) h))
       go false e below =
           ⊎-elim (below l refl) (below (complement l) (complement-atom l))
-          (append-cases (leaves (grow cs ls (w ++ (l ∷ [])))) (subst (Mem m) (leaves-fork l ls w e) h))
+          (append-cases (leaves (grow closes ls (w ++ (l ∷ [])))) (subst (Mem m) (leaves-fork l ls w e) h))
 
   -- what w makes true is true at every full node below it
-  pub leaf-agrees : (n : ℕ) (ls : List Lit) (w : Node) → Spread n (atomsOf w ls) → (m : ℕ) → Mem m (leaves (grow cs ls w)) → Agrees w m
-  leaf-agrees n ls w spread m h l k =
+  pub leaf-agrees : (atoms : List ℕ) → ((a : ℕ) → Mem a atoms → 1 ≤ a) → (ls : List Lit) (w : Node) → Spread atoms (atomsOf w ls)
+      → (m : ℕ) → Mem m (leaves (grow closes ls w)) → Agrees w m
+  leaf-agrees atoms some ls w spread m h l k =
       let u = leaf-extends ls w m h in
-      ap (λ (x : ℕ). holds x l) (u .is) ∙ plains-agrees n (u .node) (subst (Spread n) (sym (u .decides)) spread) l (u .keeps l k)
+      ap (λ (x : ℕ). holds x l) (u .is) ∙ plains-agrees atoms some (u .node) (subst (Spread atoms) (sym (u .decides)) spread) l (u .keeps l k)
 
   -- ---- the way to a model
 
-  module _ (m : ℕ) (sat : satisfies cs m ≡ true) where
+  -- values m that no node which agrees with them is closed against
+  module _ (m : ℕ) (spared : (w : Node) → Agrees w m → closes w ≡ false) where
     -- a full node below w with which m agrees
     record Reached (ls : List Lit) (w : Node) : Type 0 where
       node : Node
       agrees : Agrees node m
       decides : map atom node ≡ atomsOf w ls
-      there : Mem (plains node) (leaves (grow cs ls w))
+      there : Mem (plains node) (leaves (grow closes ls w))
 
-    -- no node on the way is closed, as m satisfies the clauses and agrees with the node
     reach : (ls : List Lit) (w : Node) → Agrees w m → Reached ls w
     reach [] w agrees =
         record {
           node = w;
           agrees = agrees;
           decides = sym (append-nil (map atom w));
-          there = subst (Mem (plains w)) (sym (leaves-full w (satisfied-open w m agrees cs sat))) (head refl);
+          there = subst (Mem (plains w)) (sym (leaves-full w (spared w agrees))) (head refl);
         }
     reach (l ∷ ls) w agrees = go (holds m l) refl (λ y t. reach ls (w ++ (y ∷ [])) (more y t))
       where
@@ -111,7 +113,7 @@ module _ (cs : List (List Lit)) where
         more y t k i = ⊎-elim (agrees k) (λ j. ap (holds m) (eq-of-singleton j) ∙ t) (append-cases w i)
 
         below : Lit → List ℕ
-        below y = leaves (grow cs ls (w ++ (y ∷ [])))
+        below y = leaves (grow closes ls (w ++ (y ∷ [])))
 
         from : (y : Lit) → atom y ≡ atom l → ((u : ℕ) → Mem u (below y) → Mem u (below l ++ below (complement l))) → Reached ls (w ++ (y ∷ [])) → Reached (l ∷ ls) w
         from y e side u =
@@ -119,7 +121,7 @@ module _ (cs : List (List Lit)) where
               node = u .node;
               agrees = u .agrees;
               decides = u .decides ∙ atoms-child w l y ls e;
-              there = subst (Mem (plains (u .node))) (sym (leaves-fork l ls w (satisfied-open w m agrees cs sat))) (side (plains (u .node)) (u .there));
+              there = subst (Mem (plains (u .node))) (sym (leaves-fork l ls w (spared w agrees))) (side (plains (u .node)) (u .there));
             }
 
         go : (b : Bool) → holds m l ≡ b → ((y : Lit) → holds m y ≡ true → Reached ls (w ++ (y ∷ []))) → Reached (l ∷ ls) w
@@ -129,35 +131,36 @@ module _ (cs : List (List Lit)) where
 -- ---- the full nodes are the models
 
 -- the atoms of an order that names each once
-pub spread : (n : ℕ) (order : List Lit) → NamesEachOnce n order → Spread n (map atom order)
-spread n order once =
+pub spread : (atoms : List ℕ) (order : List Lit) → NamesEachOnce atoms order → Spread atoms (map atom order)
+spread atoms order once =
     record {
       once = once .apart .once;
-      inRange = λ a h. let u = of-map atom order h in subst (λ (a : ℕ). (1 ≤ a) × (a ≤ n)) (u .2) (once .apart .inRange (u .0) (u .1));
+      inside = λ a h. let u = of-map atom order h in subst (λ (b : ℕ). Mem b atoms) (u .2) (once .apart .only (u .0) (u .1));
     }
 
 -- The clauses may be any: what a walk asks besides the clauses of its sheet are further clauses.
-module _ (n : ℕ) (order : List Lit) (once : NamesEachOnce n order) (cs : List (List Lit)) where
-  spread-at : (w : Node) → map atom w ≡ map atom order → Spread n (map atom w)
-  spread-at w e = subst (Spread n) (sym e) (spread n order once)
+module _ (atoms : List ℕ) (some : (a : ℕ) → Mem a atoms → 1 ≤ a) (order : List Lit) (once : NamesEachOnce atoms order)
+    (cs : List (List Lit)) (closes : Node → Bool) (closing : Closing cs closes) where
+  spread-at : (w : Node) → map atom w ≡ map atom order → Spread atoms (map atom w)
+  spread-at w e = subst (Spread atoms) (sym e) (spread atoms order once)
 
-  named-at : (w : Node) → map atom w ≡ map atom order → (a : ℕ) → 1 ≤ a → a ≤ n → Mem a (map atom w)
-  named-at w e a l h = subst (Mem a) (sym e) (once .named a l h)
+  named-at : (w : Node) → map atom w ≡ map atom order → (a : ℕ) → Mem a atoms → Mem a (map atom w)
+  named-at w e a h = subst (Mem a) (sym e) (once .named a h)
 
-  -- a full node decides every atom of the clauses if they speak of the atoms 1 to n alone
-  pub leaf-model : ((c : List Lit) (l : Lit) → Mem c cs → Mem l c → (1 ≤ atom l) × (atom l ≤ n))
-      → (m : ℕ) → Mem m (leaves (grow cs order [])) → (m < 2 ^ n) × (satisfies cs m ≡ true)
+  -- a full node decides every atom of the clauses if they speak of these atoms alone
+  pub leaf-model : ((c : List Lit) (l : Lit) → Mem c cs → Mem l c → Mem (atom l) atoms)
+      → (m : ℕ) → Mem m (leaves (grow closes order [])) → Mem m (valuations atoms) × (satisfies cs m ≡ true)
   leaf-model inside m h =
-      let u = leaf-extends cs order [] m h in
+      let u = leaf-extends closes order [] m h in
       let s = spread-at (u .node) (u .decides) in
-      subst (λ (m : ℕ). (m < 2 ^ n) × (satisfies cs m ≡ true)) (sym (u .is)) (
-        plains-fits n (u .node) s,
-        open-satisfied (u .node) (plains (u .node)) (plains-agrees n (u .node) s) cs
-            (λ c l i j. let r = inside c l i j in named-at (u .node) (u .decides) (atom l) (r .0) (r .1)) (u .stays),
+      subst (λ (m : ℕ). Mem m (valuations atoms) × (satisfies cs m ≡ true)) (sym (u .is)) (
+        plains-valued atoms some (u .node) s,
+        closing .catches (u .node) (plains (u .node)) (plains-agrees atoms some (u .node) s)
+            (λ c l i j. named-at (u .node) (u .decides) (atom l) (inside c l i j)) (u .stays),
       )
 
-  pub model-leaf : (m : ℕ) → m < 2 ^ n → satisfies cs m ≡ true → Mem m (leaves (grow cs order []))
-  model-leaf m fits sat =
-      let u = reach cs m sat order [] (λ l h. absurd (not-nil h)) in
+  pub model-leaf : (m : ℕ) → Mem m (valuations atoms) → satisfies cs m ≡ true → Mem m (leaves (grow closes order []))
+  model-leaf m valued sat =
+      let u = reach closes m (λ w agrees. closing .spares w m agrees sat) order [] (λ l h. absurd (not-nil h)) in
       let s = spread-at (u .node) (u .decides) in
-      cast (one-word n (u .node) (named-at (u .node) (u .decides)) m (plains (u .node)) (u .agrees) (plains-agrees n (u .node) s) fits (plains-fits n (u .node) s)) (u .there)
+      cast (one-word atoms some (u .node) (named-at (u .node) (u .decides)) m (plains (u .node)) (u .agrees) (plains-agrees atoms some (u .node) s) valued (plains-valued atoms some (u .node) s)) (u .there)

@@ -1,4 +1,4 @@
--- The theory of the search, and the worked cases.
+-- The theory of the search: of any tree and any walk first, then of the trees of a sheet.
 pub mod Fair
 pub mod Walking
 pub mod Actions
@@ -7,12 +7,18 @@ pub mod Past
 pub mod Correct
 pub mod Allowance
 pub mod Larger
+pub mod Places
 pub mod Entries
+pub mod Valuations
 pub mod Nodes
+pub mod Closing
 pub mod Leaves
 pub mod Parts
+pub mod Maximal
+pub mod Earlier
+pub mod Preferring
 pub mod ReadingOrder
-pub mod Sound
+pub mod WellFormed
 pub mod FairGame
 pub mod Right
 pub mod Promises

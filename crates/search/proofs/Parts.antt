@@ -1,42 +1,19 @@
--- Parts and their containment: by the objectives satisfied, as an order, and against the reading order. Assumes nothing.
+-- Parts: which positions they have, and their containment by the objectives satisfied. Assumes nothing.
 use Prim.Native.Nat.{ℕ, zero, suc, _+_, _≤_, _<_}
-use mathlib.Core.Bool.{Bool, true, false, not, _&&_, false≢true}
-use mathlib.Core.List.{List, [], _∷_, _++_, map, List·Memᴰ as Mem, List·Memᴰ·head as head, List·Memᴰ·tail as tail, List·Memᴰ·not-nil as not-nil, List·Memᴰ·cases-cons as cases-cons, Memᴰ·cast as cast}
+use mathlib.Core.Bool.{Bool, true, false}
+use mathlib.Core.List.{List, [], _∷_, List·Memᴰ as Mem, List·Memᴰ·head as head, List·Memᴰ·tail as tail, List·Memᴰ·not-nil as not-nil, List·Memᴰ·cases-cons as cases-cons, Memᴰ·cast as cast}
 use mathlib.Core.Logic.{⊎-elim}
-use mathlib.Core.Path.{_≡_, refl, sym, ap, ap₂, _∙_, subst}
+use mathlib.Core.Path.{_≡_, refl, sym, ap, _∙_, subst}
 use native.Mathlib.Omega.{arith}
 use lib.Dec.{eqb}
 use lib.ListN.{length, getD}
-use borrow.Author.Tests.{eq-eqb, eqb-true, not-true}
-use Rattle.search.specs.Models.{holds, met, part, contains, firstTrue, earlier}
+use borrow.Author.Tests.{eq-eqb, eqb-true}
+use Rattle.search.specs.Models.{holds, met, part}
 use Rattle.sheet.specs.Literals.{Lit, pos}
-use Rattle.sheet.specs.Order.{upTo}
-use Rattle.sheet.specs.Reading.{Sheet}
 use Rattle.words.proofs.Bits.{has-setOf}
-use Rattle.words.proofs.Bools.{and-split, refuted}
 use Rattle.words.proofs.Containment.{within-says, within-holds}
 use Rattle.words.proofs.Members.{any-in, any-out, mem-at, at-mem}
-use Rattle.words.specs.Positions.{has, within, strictlyWithin}
-
--- ---- containment is a strict order
-
-contains-says : (p q : ℕ) → contains p q ≡ true → (within q p ≡ true) × (within p q ≡ false)
-unfolding strictlyWithin
-contains-says p q e = let u = and-split (within q p) (not (within p q)) e in (u .0, not-true (within p q) (u .1))
-
-within-trans : (p q r : ℕ) → within p q ≡ true → within q r ≡ true → within p r ≡ true
-within-trans p q r e f = within-holds p r (λ i h t. within-says q r f i h (within-says p q e i h t))
-
-pub contains-irreflexive : (p : ℕ) → contains p p ≡ true → ⊥
-contains-irreflexive p e = let u = contains-says p p e in false≢true (sym (u .1) ∙ u .0)
-
-pub contains-transitive : (p q r : ℕ) → contains p q ≡ true → contains q r ≡ true → contains p r ≡ true
-unfolding strictlyWithin
-contains-transitive p q r e f =
-    let u = contains-says p q e in
-    let v = contains-says q r f in
-    ap₂ (λ (a b : Bool). a && not b) (within-trans r q p (v .0) (u .0))
-    (refuted (within p r) (λ t. false≢true (sym (u .1) ∙ within-trans p r q t (v .0))))
+use Rattle.words.specs.Positions.{has, within}
 
 -- ---- a part has the positions of the objectives that are satisfied
 
@@ -96,55 +73,15 @@ abbrev pub Keeps : (Lit → Bool) → (Lit → Bool) → List Lit → Type 0
 Keeps f g os = (o : Lit) → Mem o os → f o ≡ true → g o ≡ true
 
 module _ (os : List Lit) (m u : ℕ) where
-  keeps-within : Keeps (holds m) (holds u) os → within (part os m) (part os u) ≡ true
+  pub keeps-within : Keeps (holds m) (holds u) os → within (part os m) (part os u) ≡ true
   keeps-within each = within-holds (part os m) (part os u) λ i _ t.
       let v = part-out m os i t in
       part-in u os i (v .0) (each (at os i) (mem-at (pos 0) os i (v .0)) (v .1))
 
-  pub contains-keeps : length os ≤ 64 → contains (part os u) (part os m) ≡ true → Keeps (holds m) (holds u) os
-  contains-keeps few e o h t =
+  pub within-keeps : length os ≤ 64 → within (part os m) (part os u) ≡ true → Keeps (holds m) (holds u) os
+  within-keeps few e o h t =
       let k = at-mem (pos 0) os o h in
       let lt = k .1 in
       let p = part-in m os (k .0) (k .1) (ap (holds m) (k .2) ∙ t) in
-      let v = within-says (part os m) (part os u) (contains-says (part os u) (part os m) e .0) (k .0) (omega arith) p in
+      let v = within-says (part os m) (part os u) e (k .0) (omega arith) p in
       sym (ap (holds u) (k .2)) ∙ part-out u os (k .0) v .1
-
--- ---- against the reading order
-
-first-asymmetric : (xs ys : List Bool) → firstTrue xs ys ≡ true → firstTrue ys xs ≡ true → ⊥
-first-asymmetric [] ys e f = false≢true e
-first-asymmetric (x ∷ xs) [] e f = false≢true e
-first-asymmetric (true ∷ xs) (true ∷ ys) e f = first-asymmetric xs ys e f
-first-asymmetric (true ∷ xs) (false ∷ ys) e f = false≢true f
-first-asymmetric (false ∷ xs) (true ∷ ys) e f = false≢true e
-first-asymmetric (false ∷ xs) (false ∷ ys) e f = first-asymmetric xs ys e f
-
--- what passes all that another does, and more, comes first: where the two first differ, it is the one that passes
-first-more : (f g : Lit → Bool) (os later : List Lit) → Keeps g f os → (Keeps f g os → ⊥) → firstTrue (map f (os ++ later)) (map g (os ++ later)) ≡ true
-first-more f g [] later keeps more = absurd (more (λ o h. absurd (not-nil h)))
-first-more f g (o ∷ os) later keeps more = go (f o) (g o) refl refl (first-more f g os later (λ p h. keeps p (tail h)))
-  where
-    with-first : (f o ≡ true → g o ≡ true) → Keeps f g os → Keeps f g (o ∷ os)
-    with-first here there p h t = ⊎-elim (λ e. ap g e ∙ here (sym (ap f e) ∙ t)) (λ k. there p k t) (cases-cons h)
-
-    go : (a b : Bool) → f o ≡ a → g o ≡ b → ((Keeps f g os → ⊥) → firstTrue (map f (os ++ later)) (map g (os ++ later)) ≡ true)
-        → firstTrue (f o ∷ map f (os ++ later)) (g o ∷ map g (os ++ later)) ≡ true
-    go true true e e′ next = rw (e, e′) (next (λ there. more (with-first (λ _. e′) there)))
-    go true false e e′ next = rw (e, e′)
-    go false true e e′ next = absurd (false≢true (sym e ∙ keeps o (head refl) e′))
-    go false false e e′ next = rw (e, e′) (next (λ there. more (with-first (λ t. absurd (false≢true (sym e ∙ t))) there)))
-
-module _ (x : Sheet) where
-  pub earlier-asymmetric : (m u : ℕ) → earlier x m u ≡ true → earlier x u m ≡ true → ⊥
-  unfolding earlier
-  earlier-asymmetric m u = first-asymmetric (map (holds m) (x .objectives ++ upTo (x .atoms))) (map (holds u) (x .objectives ++ upTo (x .atoms)))
-
-  pub earlier-irreflexive : (m : ℕ) → earlier x m m ≡ true → ⊥
-  earlier-irreflexive m e = earlier-asymmetric m m e e
-
-  pub contains-earlier : length (x .objectives) ≤ 64 → (u m : ℕ) → contains (part (x .objectives) u) (part (x .objectives) m) ≡ true → earlier x u m ≡ true
-  unfolding earlier
-  contains-earlier few u m e =
-      let os = x .objectives in
-      first-more (holds u) (holds m) os (upTo (x .atoms)) (contains-keeps os m u few e)
-      (λ each. false≢true (sym (contains-says (part os u) (part os m) e .1) ∙ keeps-within os u m each))

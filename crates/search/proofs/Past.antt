@@ -4,7 +4,7 @@ use mathlib.Core.Bool.{true}
 use mathlib.Core.List.{List, [], _∷_, _++_, append-nil, append-assoc, List·Memᴰ as Mem, List·Memᴰ·head as head, List·Memᴰ·not-nil as not-nil, List·Memᴰ·cases-cons as cases-cons, Memᴰ·append-right as append-right, List·Memᴰ·append-cases as append-cases}
 use mathlib.Core.Logic.{⊎-elim}
 use mathlib.Core.Path.{_≡_, refl, sym, _∙_, subst}
-use Rattle.search.proofs.Fair.{Ordered}
+use Rattle.search.proofs.Fair.{BestFirst}
 use Rattle.search.proofs.Picking.{each-snoc}
 use Rattle.search.proofs.Walking.{due, leaves-due}
 use Rattle.search.specs.Search.{Game}
@@ -40,19 +40,19 @@ module _ {M : Type 0} where
       pub past-next : Mem m all
       past-next = subst (Mem m) (sym (h .split)) (append-right (h .done) (head refl))
 
--- ---- a list in order: only what has been passed can be above what comes next
+-- ---- a list in order: only what has been passed can be better than what comes next
 
 module _ (g : Game) where
-  later-below : (xs : List ℕ) (m : ℕ) (ys : List ℕ) → Ordered g (xs ++ m ∷ ys)
-      → (y : ℕ) → Mem y ys → g .above (g .part y) (g .part m) ≡ true → ⊥
+  later-below : (xs : List ℕ) (m : ℕ) (ys : List ℕ) → BestFirst g (xs ++ m ∷ ys)
+      → (y : ℕ) → Mem y ys → g .worse (g .part m) (g .part y) ≡ true → ⊥
   later-below [] m ys o = o .0
   later-below (x ∷ xs) m ys o = later-below xs m ys (o .1)
 
-  -- P holds of all that is above the next model, since it has been passed
-  pub above-past : ((p : ℕ) → g .above p p ≡ true → ⊥) → {all : List ℕ} {P : ℕ → Type 0} {m : ℕ} {rest : List ℕ}
-      → Ordered g all → Past all P (m ∷ rest) → (x : ℕ) → Mem x all → g .above (g .part x) (g .part m) ≡ true → P x
-  above-past irreflexive {m = m} {rest = rest} o h x k a =
+  -- P holds of all that is better than the next model, since it has been passed
+  pub better-past : ((p : ℕ) → g .worse p p ≡ true → ⊥) → {all : List ℕ} {P : ℕ → Type 0} {m : ℕ} {rest : List ℕ}
+      → BestFirst g all → Past all P (m ∷ rest) → (x : ℕ) → Mem x all → g .worse (g .part m) (g .part x) ≡ true → P x
+  better-past irreflexive {m = m} {rest = rest} o h x k a =
       ⊎-elim (h .holds x)
-      (λ j. ⊎-elim (λ e. absurd (irreflexive (g .part m) (subst (λ y. g .above (g .part y) (g .part m) ≡ true) e a)))
-      (λ i. absurd (later-below (h .done) m rest (subst (Ordered g) (h .split) o) x i a)) (cases-cons j))
+      (λ j. ⊎-elim (λ e. absurd (irreflexive (g .part m) (subst (λ y. g .worse (g .part m) (g .part y) ≡ true) e a)))
+      (λ i. absurd (later-below (h .done) m rest (subst (BestFirst g) (h .split) o) x i a)) (cases-cons j))
       (append-cases (h .done) (subst (Mem x) (h .split) k))

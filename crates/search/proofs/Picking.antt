@@ -1,15 +1,16 @@
--- A list without repetitions, and distinct entries of a list. Assumes nothing.
+-- A list without repetitions, its topmost entries, and distinct entries of a list. Assumes nothing.
 use Prim.Native.Nat.{ℕ, _≤_}
-use mathlib.Core.Bool.{Bool, true, false}
+use mathlib.Core.Bool.{Bool, true, false, not, false≢true}
 use mathlib.Core.List.{List, [], _∷_, _++_, List·Memᴰ as Mem, List·Memᴰ·head as head, List·Memᴰ·tail as tail, List·Memᴰ·not-nil as not-nil, List·Memᴰ·cases-cons as cases-cons, Memᴰ·cast as cast, List·Memᴰ·append-cases as append-cases, List·Memᴰ·eq-of-singleton as eq-of-singleton}
 use mathlib.Core.Logic.{⊎-elim}
-use mathlib.Core.Path.{_≡_, refl, sym, _∙_, subst}
+use mathlib.Core.Path.{_≡_, refl, sym, ap, _∙_, subst}
 use lib.Dec.{eqb}
 use lib.ListN.{length}
-use borrow.Author.Tests.{eqb-true}
-use Rattle.search.specs.Maximal.{distinct}
-use Rattle.words.proofs.Members.{any-out, distinct-snoc, distinct-fit}
-use Rattle.words.specs.Lists.{any, Distinct}
+use borrow.Author.Tests.{eq-eqb, eqb-true, not-true}
+use Rattle.search.specs.Maximal.{distinct, topmost}
+use Rattle.words.proofs.Bools.{refuted}
+use Rattle.words.proofs.Members.{any-in, any-out, any-none, pick-in, pick-out, distinct-snoc, distinct-fit}
+use Rattle.words.specs.Lists.{any, pick, Distinct}
 
 -- ---- without repetitions
 
@@ -32,6 +33,27 @@ distinct-out (y ∷ xs) x h = go (any (eqb y) xs) refl (distinct-out xs x)
     go false e later =
         let k : Mem x (y ∷ distinct xs) = rw (e, distinct) at h in
         ⊎-elim (λ i. head i) (λ k. tail (later k)) (cases-cons k)
+
+pub distinct-once : (xs : List ℕ) → Distinct (distinct xs)
+distinct-once [] = tt
+distinct-once (x ∷ xs) = go (any (eqb x) xs) refl (distinct-once xs)
+  where
+    go : (b : Bool) → any (eqb x) xs ≡ b → Distinct (distinct xs) → Distinct (distinct (x ∷ xs))
+    go true e later = rw (e, distinct) later
+    go false e later = rw (e, distinct) (λ h. false≢true (sym (any-none (eqb x) xs e x (distinct-out xs x h)) ∙ eq-eqb x x refl), later)
+
+-- ---- the topmost entries, each once
+
+module _ (worse : ℕ → ℕ → Bool) (ps : List ℕ) where
+  pub top-in : (p : ℕ) → Mem p ps → ((q : ℕ) → Mem q ps → worse p q ≡ true → ⊥) → Mem p (distinct (topmost worse ps))
+  top-in p h top =
+      distinct-in _ p (pick-in (λ p. not (any (worse p) ps)) ps p h
+      (ap not (refuted (any (worse p) ps) (λ t. let u = any-out (worse p) ps t in top (u .0) (u .1) (u .2)))))
+
+  pub top-out : (p : ℕ) → Mem p (distinct (topmost worse ps)) → Mem p ps × ((q : ℕ) → Mem q ps → worse p q ≡ true → ⊥)
+  top-out p h =
+      let u = pick-out (λ p. not (any (worse p) ps)) ps p (distinct-out _ p h) in
+      (u .0, λ q k t. false≢true (sym (not-true (any (worse p) ps) (u .1)) ∙ any-in (worse p) ps q k t))
 
 -- ---- one entry more
 

@@ -1,5 +1,5 @@
 -- The full nodes of a grown tree stand in reading order. Assumes nothing.
-use Prim.Native.Nat.{ℕ}
+use Prim.Native.Nat.{ℕ, _≤_}
 use mathlib.Core.Bool.{Bool, true, false}
 use mathlib.Core.List.{List, [], _∷_, _++_, map, map-append, append-nil, append-assoc, List·Memᴰ as Mem, List·Memᴰ·head as head, List·Memᴰ·not-nil as not-nil, Memᴰ·cast as cast, Memᴰ·map as mem-map, Memᴰ·append-right as append-right}
 use mathlib.Core.Logic.{⊎-elim}
@@ -9,13 +9,13 @@ use borrow.Author.Tests.{eqb-true}
 use Rattle.search.proofs.Entries.{Sorted, sorted-append, sorted-by}
 use Rattle.search.proofs.Leaves.{atomsOf, atoms-child, leaves-closed, leaves-full, leaves-fork, leaf-agrees, spread}
 use Rattle.search.proofs.Nodes.{complement-atom, complement-true, Agrees, decided, Spread}
-use Rattle.search.specs.Grown.{Node, isClosed, grow}
+use Rattle.search.specs.Grown.{Node, grow}
 use Rattle.search.specs.Models.{holds, firstTrue, earlier}
 use Rattle.search.specs.Tree.{leaves}
 use Rattle.sheet.proofs.BranchLaws.{taking-old, taking-new}
 use Rattle.sheet.proofs.EachOnce.{NamesEachOnce}
 use Rattle.sheet.specs.Literals.{Lit, atom, complement}
-use Rattle.sheet.specs.Order.{names, takingAll, branch, upTo}
+use Rattle.sheet.specs.Order.{valued, readings, names, takingAll, branch}
 use Rattle.sheet.specs.Reading.{Sheet}
 use Rattle.words.proofs.Members.{any-out}
 use Rattle.words.specs.Lists.{any}
@@ -75,16 +75,16 @@ before-same l ls m u e = ap (λ (b : Bool). firstTrue (b ∷ map (holds m) ls) (
 before-here : (l : Lit) (ls : List Lit) (m u : ℕ) → holds m l ≡ true → holds u l ≡ false → before (l ∷ ls) m u ≡ true
 before-here l ls m u e f = ap₂ (λ (a b : Bool). firstTrue (a ∷ map (holds m) ls) (b ∷ map (holds u) ls)) e f
 
-module _ (n : ℕ) (cs : List (List Lit)) where
+module _ (atoms : List ℕ) (some : (a : ℕ) → Mem a atoms → 1 ≤ a) (closes : Node → Bool) where
   -- the full nodes below w, where the literals of the order are still to be tried, are in order as far as the literals ls go
   abbrev InOrder : List Lit → List Lit → Node → Type 0
-  InOrder ls order w = Spread n (atomsOf w order) → Sorted (before ls) (leaves (grow cs order w))
+  InOrder ls order w = Spread atoms (atomsOf w order) → Sorted (before ls) (leaves (grow closes order w))
 
   -- a literal whose atom the node decides makes no difference below it
   same-below : (l : Lit) (ls order : List Lit) (w : Node) → Mem (atom l) (map atom w) → InOrder ls order w → InOrder (l ∷ ls) order w
   same-below l ls order w h sorted apart =
-      sorted-by (before ls) (before (l ∷ ls)) (leaves (grow cs order w))
-      (λ m u i j s. before-same l ls m u (same m u (leaf-agrees cs n order w apart m i) (leaf-agrees cs n order w apart u j)) ∙ s) (sorted apart)
+      sorted-by (before ls) (before (l ∷ ls)) (leaves (grow closes order w))
+      (λ m u i j s. before-same l ls m u (same m u (leaf-agrees closes atoms some order w apart m i) (leaf-agrees closes atoms some order w apart u j)) ∙ s) (sorted apart)
     where
       same : (m u : ℕ) → Agrees w m → Agrees w u → holds m l ≡ holds u l
       same m u a b =
@@ -93,53 +93,53 @@ module _ (n : ℕ) (cs : List (List Lit)) where
 
   -- what stands below the first child comes before what stands below the second
   fork-in-order : (l : Lit) (ls order : List Lit) (w : Node) → ((y : Lit) → atom y ≡ atom l → InOrder ls order (w ++ (y ∷ []))) → InOrder (l ∷ ls) (l ∷ order) w
-  fork-in-order l ls order w below apart = go (isClosed cs w) refl
+  fork-in-order l ls order w below apart = go (closes w) refl
     where
-      apart-at : (y : Lit) → atom y ≡ atom l → Spread n (atomsOf (w ++ (y ∷ [])) order)
-      apart-at y e = subst (Spread n) (sym (atoms-child w l y order e)) apart
+      apart-at : (y : Lit) → atom y ≡ atom l → Spread atoms (atomsOf (w ++ (y ∷ [])) order)
+      apart-at y e = subst (Spread atoms) (sym (atoms-child w l y order e)) apart
 
-      true-at : (y : Lit) → atom y ≡ atom l → (m : ℕ) → Mem m (leaves (grow cs order (w ++ (y ∷ [])))) → holds m y ≡ true
-      true-at y e m h = leaf-agrees cs n order (w ++ (y ∷ [])) (apart-at y e) m h y (append-right w (head refl))
+      true-at : (y : Lit) → atom y ≡ atom l → (m : ℕ) → Mem m (leaves (grow closes order (w ++ (y ∷ [])))) → holds m y ≡ true
+      true-at y e m h = leaf-agrees closes atoms some order (w ++ (y ∷ [])) (apart-at y e) m h y (append-right w (head refl))
 
-      child : (y : Lit) → atom y ≡ atom l → Sorted (before (l ∷ ls)) (leaves (grow cs order (w ++ (y ∷ []))))
+      child : (y : Lit) → atom y ≡ atom l → Sorted (before (l ∷ ls)) (leaves (grow closes order (w ++ (y ∷ []))))
       child y e = same-below l ls order (w ++ (y ∷ [])) (cast (sym e) (mem-map atom (append-right w (head refl)))) (below y e) (apart-at y e)
 
-      go : (b : Bool) → isClosed cs w ≡ b → Sorted (before (l ∷ ls)) (leaves (grow cs (l ∷ order) w))
-      go true f = subst (Sorted (before (l ∷ ls))) (sym (leaves-closed cs (l ∷ order) w f)) tt
+      go : (b : Bool) → closes w ≡ b → Sorted (before (l ∷ ls)) (leaves (grow closes (l ∷ order) w))
+      go true f = subst (Sorted (before (l ∷ ls))) (sym (leaves-closed closes (l ∷ order) w f)) tt
       go false f =
-          subst (Sorted (before (l ∷ ls))) (sym (leaves-fork cs l order w f))
-          (sorted-append (before (l ∷ ls)) (leaves (grow cs order (w ++ (l ∷ [])))) (leaves (grow cs order (w ++ (complement l ∷ []))))
+          subst (Sorted (before (l ∷ ls))) (sym (leaves-fork closes l order w f))
+          (sorted-append (before (l ∷ ls)) (leaves (grow closes order (w ++ (l ∷ [])))) (leaves (grow closes order (w ++ (complement l ∷ []))))
           (child l refl) (child (complement l) (complement-atom l))
           (λ m u i j. before-here l ls m u (true-at l refl m i) (complement-true u l (true-at (complement l) (complement-atom l) u j))))
 
-  grown-in-order : (ls : List Lit) (atoms : List ℕ) (w : Node) → map atom w ≡ atoms → InOrder ls (fresh atoms ls) w
-  grown-in-order [] atoms w e apart = go (isClosed cs w) refl
+  grown-in-order : (ls : List Lit) (seen : List ℕ) (w : Node) → map atom w ≡ seen → InOrder ls (fresh seen ls) w
+  grown-in-order [] seen w e apart = go (closes w) refl
     where
-      go : (b : Bool) → isClosed cs w ≡ b → Sorted (before []) (leaves (grow cs [] w))
-      go true f = subst (Sorted (before [])) (sym (leaves-closed cs [] w f)) tt
-      go false f = subst (Sorted (before [])) (sym (leaves-full cs w f)) (λ y h. absurd (not-nil h), tt)
-  grown-in-order (l ∷ ls) atoms w e apart =
-      go (among atoms (atom l)) refl (grown-in-order ls atoms w e) (λ y f. grown-in-order ls (atoms ++ (atom l ∷ [])) (w ++ (y ∷ [])) (child-atoms y f)) apart
+      go : (b : Bool) → closes w ≡ b → Sorted (before []) (leaves (grow closes [] w))
+      go true f = subst (Sorted (before [])) (sym (leaves-closed closes [] w f)) tt
+      go false f = subst (Sorted (before [])) (sym (leaves-full closes w f)) (λ y h. absurd (not-nil h), tt)
+  grown-in-order (l ∷ ls) seen w e apart =
+      go (among seen (atom l)) refl (grown-in-order ls seen w e) (λ y f. grown-in-order ls (seen ++ (atom l ∷ [])) (w ++ (y ∷ [])) (child-atoms y f)) apart
     where
-      child-atoms : (y : Lit) → atom y ≡ atom l → map atom (w ++ (y ∷ [])) ≡ atoms ++ (atom l ∷ [])
+      child-atoms : (y : Lit) → atom y ≡ atom l → map atom (w ++ (y ∷ [])) ≡ seen ++ (atom l ∷ [])
       child-atoms y f = map-append atom w (y ∷ []) ∙ ap₂ (λ (xs : List ℕ) (a : ℕ). xs ++ (a ∷ [])) e f
 
-      old-named : among atoms (atom l) ≡ true → Mem (atom l) (map atom w)
-      old-named t = let u = any-out (λ b. eqb b (atom l)) atoms t in subst (Mem (atom l)) (sym e) (cast (sym (eqb-true (u .0) (atom l) (u .2))) (u .1))
+      old-named : among seen (atom l) ≡ true → Mem (atom l) (map atom w)
+      old-named t = let u = any-out (λ b. eqb b (atom l)) seen t in subst (Mem (atom l)) (sym e) (cast (sym (eqb-true (u .0) (atom l) (u .2))) (u .1))
 
-      go : (b : Bool) → among atoms (atom l) ≡ b → InOrder ls (fresh atoms ls) w
-          → ((y : Lit) → atom y ≡ atom l → InOrder ls (fresh (atoms ++ (atom l ∷ [])) ls) (w ++ (y ∷ []))) → InOrder (l ∷ ls) (fresh atoms (l ∷ ls)) w
+      go : (b : Bool) → among seen (atom l) ≡ b → InOrder ls (fresh seen ls) w
+          → ((y : Lit) → atom y ≡ atom l → InOrder ls (fresh (seen ++ (atom l ∷ [])) ls) (w ++ (y ∷ []))) → InOrder (l ∷ ls) (fresh seen (l ∷ ls)) w
       go true t old new =
-          subst (λ (order : List Lit). InOrder (l ∷ ls) order w) (sym (fresh-old atoms l ls t)) (same-below l ls (fresh atoms ls) w (old-named t) old)
+          subst (λ (order : List Lit). InOrder (l ∷ ls) order w) (sym (fresh-old seen l ls t)) (same-below l ls (fresh seen ls) w (old-named t) old)
       go false t old new =
-          subst (λ (order : List Lit). InOrder (l ∷ ls) order w) (sym (fresh-new atoms l ls t)) (fork-in-order l ls (fresh (atoms ++ (atom l ∷ [])) ls) w new)
+          subst (λ (order : List Lit). InOrder (l ∷ ls) order w) (sym (fresh-new seen l ls t)) (fork-in-order l ls (fresh (seen ++ (atom l ∷ [])) ls) w new)
 
 -- ---- the trees of a sheet
 
-pub leaves-sorted : (x : Sheet) → NamesEachOnce (x .atoms) (branch x) → (cs : List (List Lit)) → Sorted (earlier x) (leaves (grow cs (branch x) []))
+pub leaves-sorted : (x : Sheet) → ((a : ℕ) → Mem a (valued x) → 1 ≤ a) → NamesEachOnce (valued x) (branch x)
+    → (closes : Node → Bool) → Sorted (earlier x) (leaves (grow closes (branch x) []))
 unfolding branch earlier
-leaves-sorted x once cs =
-    let readings = x .objectives ++ upTo (x .atoms) in
-    let e : takingAll [] readings ≡ fresh [] readings = taken-fresh [] readings in
-    subst (λ (order : List Lit). Sorted (before readings) (leaves (grow cs order []))) (sym e)
-    (grown-in-order (x .atoms) cs readings [] [] refl (subst (λ (order : List Lit). Spread (x .atoms) (map atom order)) e (spread (x .atoms) (branch x) once)))
+leaves-sorted x some once closes =
+    let e : takingAll [] (readings x) ≡ fresh [] (readings x) = taken-fresh [] (readings x) in
+    subst (λ (order : List Lit). Sorted (before (readings x)) (leaves (grow closes order []))) (sym e)
+    (grown-in-order (valued x) some closes (readings x) [] [] refl (subst (λ (order : List Lit). Spread (valued x) (map atom order)) e (spread (valued x) (branch x) once)))

@@ -3,8 +3,7 @@ use Prim.Native.Nat.{ℕ}
 use mathlib.Core.Bool.{Bool, true, false, not}
 use mathlib.Core.List.{List, [], _∷_, map}
 use lib.Dec.{eqb}
-use Rattle.search.specs.Models.{models, holds, part, contains}
-use Rattle.sheet.specs.Literals.{Lit}
+use Rattle.search.specs.Models.{part, Preference}
 use Rattle.sheet.specs.Reading.{Sheet}
 use Rattle.words.specs.Lists.{any, pick}
 
@@ -13,10 +12,10 @@ abbrev pub distinct : List ℕ → List ℕ
 distinct [] = []
 distinct (x ∷ xs) = elim (any (eqb x) xs) [ true ↦ distinct xs | false ↦ x ∷ distinct xs ]
 
--- the parts that no part of the list is above
+-- the parts than which no part of the list is better
 abbrev pub topmost : (ℕ → ℕ → Bool) → List ℕ → List ℕ
-topmost above ps = pick (λ p. not (any (λ q. above q p) ps)) ps
+topmost worse ps = pick (λ p. not (any (worse p) ps)) ps
 
--- "the distinct maximal parts among models that satisfy" a literal
-unfoldable pub maximalParts : Sheet → Lit → List ℕ
-maximalParts x l = distinct (topmost contains (map (part (x .objectives)) (pick (λ m. holds m l) (models x))))
+-- "the distinct maximal parts among models": of the models ms
+unfoldable pub maximalParts : Preference → Sheet → List ℕ → List ℕ
+maximalParts p x ms = distinct (topmost (p .worse) (map (part (x .objectives)) ms))

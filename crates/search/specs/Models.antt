@@ -1,15 +1,17 @@
 -- Models of a sheet, their parts, which of them are optimal, and the reading order. Quotations are of document 01.
-use Prim.Native.Nat.{ℕ, suc, _-_, _^_, _<_}
+use Prim.Native.Nat.{ℕ, suc, _-_}
 use mathlib.Core.Bool.{Bool, true, false, not}
-use mathlib.Core.List.{List, [], _∷_, _++_, map}
+use mathlib.Core.List.{List, [], _∷_, _++_, map, List·Memᴰ as Mem}
 use mathlib.Core.Path.{_≡_}
-use Rattle.sheet.specs.Literals.{Lit, pos, neg}
-use Rattle.sheet.specs.Order.{upTo}
+use Rattle.sheet.specs.Literals.{Lit, pos, neg, complement}
+use Rattle.sheet.specs.Order.{valued, readings}
 use Rattle.sheet.specs.Reading.{Sheet}
-use Rattle.words.specs.Lists.{any, all, pick, below}
-use Rattle.words.specs.Positions.{has, setOf, strictlyWithin}
+use Rattle.words.specs.Lists.{any, all, pick}
+use Rattle.words.specs.Positions.{has, adding, setOf, strictlyWithin}
 
--- "it takes a model to be a value for every atom 1 to n": a word below 2 ^ n, in which atom a is position a - 1
+-- ---- models
+
+-- the value of atom a under m, a word in which atom a is position a - 1
 unfoldable pub value : ℕ → ℕ → Bool
 value m a = has m (a - 1)
 
@@ -22,9 +24,23 @@ holds m (neg a) = not (value m a)
 unfoldable pub satisfies : List (List Lit) → ℕ → Bool
 satisfies clauses m = all (λ c. any (holds m) c) clauses
 
--- the models, among all values for the atoms 1 to n
+-- every way to give values to some atoms
+unfoldable pub valuations : List ℕ → List ℕ
+valuations [] = 0 ∷ []
+valuations (a ∷ atoms) = map (λ m. adding m (a - 1)) (valuations atoms) ++ valuations atoms
+
+-- "it takes a model to be a value for every atom 1 to n that the sheet declares"
 unfoldable pub models : Sheet → List ℕ
-models x = pick (satisfies (x .clauses)) (below (2 ^ x .atoms))
+models x = pick (satisfies (x .clauses)) (valuations (valued x))
+
+-- "An affirming model satisfies q; a denying model satisfies its complement."
+abbrev pub affirming : Sheet → Lit → List ℕ
+affirming x q = pick (λ m. holds m q) (models x)
+
+abbrev pub denying : Sheet → Lit → List ℕ
+denying x q = affirming x (complement q)
+
+-- ---- parts, and optimal models
 
 -- the positions, from i on, of the literals that are true under m
 abbrev pub met : ℕ → ℕ → List Lit → List ℕ
@@ -35,19 +51,21 @@ met m i (o ∷ os) = elim (holds m o) [ true ↦ i ∷ met m (suc i) os | false 
 unfoldable pub part : List Lit → ℕ → ℕ
 part objectives m = setOf (met m 0 objectives)
 
--- p strictly contains q
-abbrev pub contains : ℕ → ℕ → Bool
-contains p q = strictlyWithin q p
+-- How parts are compared, `worse p q` where q is the better part, and which of the objectives a test keeps.
+pub record Preference : Type 0 where
+  pub worse : ℕ → ℕ → Bool
+  pub kept : List Lit → List Lit
 
--- m is a model of the sheet
-pub record Model (x : Sheet) (m : ℕ) : Type 0 where
-  pub valued : m < 2 ^ x .atoms
-  pub satisfied : satisfies (x .clauses) m ≡ true
+-- one part is better than another if it strictly contains it; every objective is kept
+abbrev pub containment : Preference
+containment = record { worse = strictlyWithin; kept = λ objectives. objectives }
 
 -- "A model is optimal if no model has a part that strictly contains its own."
-pub record Optimal (x : Sheet) (m : ℕ) : Type 0 where
-  pub model : Model x m
-  pub unbeaten : (u : ℕ) → Model x u → contains (part (x .objectives) u) (part (x .objectives) m) ≡ true → ⊥
+pub record Optimal (p : Preference) (x : Sheet) (m : ℕ) : Type 0 where
+  pub model : Mem m (models x)
+  pub unbeaten : (u : ℕ) → Mem u (models x) → p .worse (part (x .objectives) m) (part (x .objectives) u) ≡ true → ⊥
+
+-- ---- the reading order
 
 -- "at the first that differs", the one with true comes first
 abbrev pub firstTrue : List Bool → List Bool → Bool
@@ -61,5 +79,4 @@ firstTrue (false ∷ xs) (false ∷ ys) = firstTrue xs ys
 -- "Of two models, look at objective positions from 0: at the first where satisfaction differs, the satisfying model comes first. If none
 -- differs, look at atoms from 1: at the first that differs, the one with true comes first."
 unfoldable pub earlier : Sheet → ℕ → ℕ → Bool
-earlier x m u =
-    let readings : List Lit = x .objectives ++ upTo (x .atoms) in firstTrue (map (holds m) readings) (map (holds u) readings)
+earlier x m u = firstTrue (map (holds m) (readings x)) (map (holds u) (readings x))

@@ -7,10 +7,10 @@ use lib.ListN.{length}
 use Rattle.search.specs.Tree.{Tree, Run, on, off, walk}
 use Rattle.words.specs.Lists.{any}
 
--- What is searched. `above p q`: the part p is better than the part q; without classes, p strictly contains q.
+-- What is searched. `worse p q`: the part q is better than the part p.
 pub record Game : Type 0 where
   pub part : ℕ → ℕ
-  pub above : ℕ → ℕ → Bool
+  pub worse : ℕ → ℕ → Bool
   pub candidates : Tree ℕ
   pub rivals : ℕ → Tree ℕ
 
@@ -69,7 +69,7 @@ settle places m s (off n (found p)) = store places p (withSteps s n)
 module _ (g : Game) where
   -- a full node of the test of c: "It finds the first full node whose part strictly contains the candidate's, and stops there."
   unfoldable pub meet : ℕ → ℕ → ℕ → Run ℕ Stop
-  meet c m n = elim (g .above (g .part m) (g .part c)) [ true ↦ off n (found (g .part m)) | false ↦ on n ]
+  meet c m n = elim (g .worse (g .part c) (g .part m)) [ true ↦ off n (found (g .part m)) | false ↦ on n ]
 
   module _ (allowance : ℕ) where
     -- "Test. A walk of its own from the root."
@@ -80,7 +80,7 @@ module _ (g : Game) where
       -- "Each full node is a candidate. If its part lies strictly within a stored part it is passed over. Otherwise a test begins."
       unfoldable pub judge : ℕ → State → Run State Answer
       judge m s =
-          elim (any (λ p. g .above p (g .part m)) (s .stored))
+          elim (any (g .worse (g .part m)) (s .stored))
           [ true ↦ on s | false ↦ settle places m (withTest s) (test m (s .steps)) ]
 
       unfoldable pub search : Run State Answer
@@ -91,6 +91,14 @@ abbrev pub answered : Run State Answer → Answer
 answered (on s) = No
 answered (off s a) = a
 
+-- "yes", "no", "another visit is due and steps equal the allowance", "a test finds a part and no store place is free"
+abbrev pub codeOf : Answer → ℕ
+codeOf (Yes m) = 1
+codeOf No = 2
+codeOf Cut = 18
+codeOf NoPlace = 19
+
+-- the state in which it ended
 abbrev pub ended : Run State Answer → State
 ended (on s) = s
 ended (off s a) = s
