@@ -1,17 +1,13 @@
--- The reading order is a strict total order on models, and there is but one first model. Assumes nothing.
-use Prim.Native.Nat.{ℕ, _≤_}
+-- The reading order is a strict order, and what satisfies more comes earlier. Assumes nothing.
+use Prim.Native.Nat.{ℕ}
 use mathlib.Core.Bool.{Bool, true, false, false≢true}
-use mathlib.Core.List.{List, [], _∷_, _++_, map, List·Memᴰ as Mem, List·Memᴰ·head as head, List·Memᴰ·tail as tail, List·Memᴰ·not-nil as not-nil, List·Memᴰ·cases-cons as cases-cons, Memᴰ·map as mem-map, Memᴰ·append-right as append-right}
+use mathlib.Core.List.{List, [], _∷_, _++_, map, List·Memᴰ as Mem, List·Memᴰ·head as head, List·Memᴰ·tail as tail, List·Memᴰ·not-nil as not-nil, List·Memᴰ·cases-cons as cases-cons}
 use mathlib.Core.Logic.{_⊎_, inl, inr, ⊎-elim}
 use mathlib.Core.Path.{_≡_, refl, sym, ap, _∙_}
 use Rattle.search.proofs.Parts.{Keeps}
-use Rattle.search.proofs.Valuations.{valuation-one}
-use Rattle.search.specs.Demands.{First}
-use Rattle.search.specs.Models.{value, holds, satisfies, valuations, models, Preference, firstTrue, earlier}
-use Rattle.sheet.specs.Literals.{Lit, pos}
-use Rattle.sheet.specs.Order.{valued, readings}
+use Rattle.search.specs.Models.{holds, firstTrue, before, earlier}
+use Rattle.sheet.specs.Literals.{Lit}
 use Rattle.sheet.specs.Reading.{Sheet}
-use Rattle.words.proofs.Members.{pick-out}
 
 -- ---- by the first test that differs
 
@@ -37,7 +33,7 @@ first-transitive (false ∷ xs) (false ∷ ys) (true ∷ zs) e f = absurd (false
 first-transitive (false ∷ xs) (false ∷ ys) (false ∷ zs) e f = first-transitive xs ys zs e f
 
 -- of two tests on one list, one comes first or they agree
-first-total : {A : Type 0} (f g : A → Bool) (xs : List A)
+pub first-total : {A : Type 0} (f g : A → Bool) (xs : List A)
     → ((x : A) → Mem x xs → f x ≡ g x) ⊎ ((firstTrue (map f xs) (map g xs) ≡ true) ⊎ (firstTrue (map g xs) (map f xs) ≡ true))
 first-total f g [] = inl (λ x h. absurd (not-nil h))
 first-total {A} f g (x ∷ xs) = go (f x) (g x) refl refl (first-total f g xs)
@@ -78,28 +74,19 @@ first-more f g (o ∷ os) later keeps more = go (f o) (g o) refl refl (first-mor
 
 -- ---- the reading order
 
+before-asymmetric : (ls : List Lit) (m u : ℕ) → before ls m u ≡ true → before ls u m ≡ true → ⊥
+unfolding before
+before-asymmetric ls m u = first-asymmetric (map (holds m) ls) (map (holds u) ls)
+
+before-transitive : (ls : List Lit) (m u v : ℕ) → before ls m u ≡ true → before ls u v ≡ true → before ls m v ≡ true
+unfolding before
+before-transitive ls m u v = first-transitive (map (holds m) ls) (map (holds u) ls) (map (holds v) ls)
+
 module _ (x : Sheet) where
   pub earlier-asymmetric : (m u : ℕ) → earlier x m u ≡ true → earlier x u m ≡ true → ⊥
   unfolding earlier
-  earlier-asymmetric m u = first-asymmetric (map (holds m) (readings x)) (map (holds u) (readings x))
+  earlier-asymmetric m u = before-asymmetric _ m u
 
   pub earlier-transitive : (m u v : ℕ) → earlier x m u ≡ true → earlier x u v ≡ true → earlier x m v ≡ true
   unfolding earlier
-  earlier-transitive m u v = first-transitive (map (holds m) (readings x)) (map (holds u) (readings x)) (map (holds v) (readings x))
-
-  -- Models that agree on all that is read have the same values.
-  pub earlier-total : ((a : ℕ) → Mem a (valued x) → 1 ≤ a) → (m u : ℕ) → Mem m (models x) → Mem u (models x)
-      → (m ≡ u) ⊎ ((earlier x m u ≡ true) ⊎ (earlier x u m ≡ true))
-  unfolding earlier models value
-  earlier-total some m u hm hu =
-      ⊎-elim (λ same. inl (valuation-one (valued x) some m u (valuedAs m hm) (valuedAs u hu) (λ a h. same (pos a) (append-right (x .objectives) (mem-map pos h)))))
-      (λ sided. inr sided) (first-total (holds m) (holds u) (readings x))
-    where
-      valuedAs : (w : ℕ) → Mem w (models x) → Mem w (valuations (valued x))
-      valuedAs w h = pick-out (satisfies (x .clauses)) (valuations (valued x)) w h .0
-
-  -- "the first such model" is one
-  pub first-alone : (p : Preference) (q : Lit) (m u : ℕ) → First p x q m → First p x q u → m ≡ u
-  first-alone p q m u f g =
-      ⊎-elim (λ e. sym e) (λ l. ⊎-elim (λ e. e) (λ k. absurd (earlier-asymmetric m u l k)) (g .first m (f .optimal) (f .affirms)))
-      (f .first u (g .optimal) (g .affirms))
+  earlier-transitive m u v = before-transitive _ m u v

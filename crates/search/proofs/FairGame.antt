@@ -21,7 +21,7 @@ use Rattle.sheet.specs.Literals.{Lit, complement, atom}
 use Rattle.sheet.specs.Order.{valued, branch}
 use Rattle.sheet.specs.Reading.{Sheet}
 use Rattle.words.proofs.Members.{any-in, any-out, all-in, all-out, pick-in, pick-out}
-use Rattle.words.specs.Lists.{any, all, pick}
+use Rattle.words.specs.Lists.{any, pick}
 
 -- ---- conditions on literals are clauses
 

@@ -20,5 +20,7 @@ pub mod Preferring
 pub mod ReadingOrder
 pub mod WellFormed
 pub mod FairGame
+pub mod Total
 pub mod Right
 pub mod Promises
+pub mod Mistakes

@@ -3,7 +3,7 @@ use Prim.Native.Nat.{ℕ}
 use mathlib.Core.Bool.{true}
 use mathlib.Core.List.{List, map, List·Memᴰ as Mem, Memᴰ·cast as cast, Memᴰ·map as mem-map, Memᴰ·of-map as of-map}
 use mathlib.Core.Logic.{_↔_}
-use mathlib.Core.Path.{_≡_, sym, ap, _∙_, subst}
+use mathlib.Core.Path.{_≡_, sym, ap, _∙_}
 use Rattle.search.proofs.Picking.{distinct-once, top-in, top-out}
 use Rattle.search.specs.Maximal.{topmost, maximalParts}
 use Rattle.search.specs.Models.{part, Preference}

@@ -1,6 +1,6 @@
 -- Nodes and values for the atoms that agree with them, and the word of a full node. Assumes nothing.
 use Prim.Native.Nat.{ℕ, suc, _-_, _≤_}
-use mathlib.Core.Bool.{Bool, true, false, not, false≢true, Bool·not-not}
+use mathlib.Core.Bool.{true, false, not, false≢true, Bool·not-not}
 use mathlib.Core.List.{List, map, List·Memᴰ as Mem, Memᴰ·cast as cast, Memᴰ·map as mem-map, Memᴰ·of-map as of-map}
 use mathlib.Core.Logic.{_⊎_, inl, inr, ⊎-elim}
 use mathlib.Core.Path.{_≡_, refl, sym, ap, _∙_, subst}

@@ -10,7 +10,7 @@ use borrow.Author.Tests.{eq-eqb, eqb-true, not-true}
 use Rattle.search.specs.Maximal.{distinct, topmost}
 use Rattle.words.proofs.Bools.{refuted}
 use Rattle.words.proofs.Members.{any-in, any-out, any-none, pick-in, pick-out, distinct-snoc, distinct-fit}
-use Rattle.words.specs.Lists.{any, pick, Distinct}
+use Rattle.words.specs.Lists.{any, Distinct}
 
 -- ---- without repetitions
 

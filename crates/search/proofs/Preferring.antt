@@ -6,7 +6,7 @@ use mathlib.Core.Path.{_≡_, sym, _∙_}
 use lib.ListN.{length}
 use Rattle.search.proofs.Earlier.{first-more}
 use Rattle.search.proofs.Parts.{Keeps, keeps-within, within-keeps}
-use Rattle.search.specs.Models.{holds, part, Preference, containment, earlier}
+use Rattle.search.specs.Models.{holds, part, Preference, containment, before, earlier}
 use Rattle.sheet.specs.Literals.{Lit, pos}
 use Rattle.sheet.specs.Order.{valued}
 use Rattle.sheet.specs.Reading.{Sheet}
@@ -21,7 +21,7 @@ pub record Sensible (p : Preference) (x : Sheet) : Type 0 where
   pub fromThem : (o : Lit) → Mem o (p .kept (x .objectives)) → Mem o (x .objectives)
 
 pub containment-sensible : (x : Sheet) → length (x .objectives) ≤ 64 → Sensible containment x
-unfolding earlier
+unfolding earlier before
 containment-sensible x few =
     record {
       irreflexive = strictly-irreflexive;

@@ -10,7 +10,7 @@ use Rattle.search.proofs.Entries.{Sorted, sorted-append, sorted-by}
 use Rattle.search.proofs.Leaves.{atomsOf, atoms-child, leaves-closed, leaves-full, leaves-fork, leaf-agrees, spread}
 use Rattle.search.proofs.Nodes.{complement-atom, complement-true, Agrees, decided, Spread}
 use Rattle.search.specs.Grown.{Node, grow}
-use Rattle.search.specs.Models.{holds, firstTrue, earlier}
+use Rattle.search.specs.Models.{holds, firstTrue, before, earlier}
 use Rattle.search.specs.Tree.{leaves}
 use Rattle.sheet.proofs.BranchLaws.{taking-old, taking-new}
 use Rattle.sheet.proofs.EachOnce.{NamesEachOnce}
@@ -61,11 +61,8 @@ taken-fresh so (l ∷ ls) = go (any (names (atom l)) so) refl (taken-fresh so ls
 
 -- ---- the full nodes below a node
 
--- m comes before u, as far as these literals go
-abbrev before : List Lit → ℕ → ℕ → Bool
-before ls m u = firstTrue (map (holds m) ls) (map (holds u) ls)
-
 before-same : (l : Lit) (ls : List Lit) (m u : ℕ) → holds m l ≡ holds u l → before (l ∷ ls) m u ≡ before ls m u
+unfolding before
 before-same l ls m u e = ap (λ (b : Bool). firstTrue (b ∷ map (holds m) ls) (holds u l ∷ map (holds u) ls)) e ∙ go (holds u l)
   where
     go : (b : Bool) → firstTrue (b ∷ map (holds m) ls) (b ∷ map (holds u) ls) ≡ before ls m u
@@ -73,6 +70,7 @@ before-same l ls m u e = ap (λ (b : Bool). firstTrue (b ∷ map (holds m) ls) (
     go false = refl
 
 before-here : (l : Lit) (ls : List Lit) (m u : ℕ) → holds m l ≡ true → holds u l ≡ false → before (l ∷ ls) m u ≡ true
+unfolding before
 before-here l ls m u e f = ap₂ (λ (a b : Bool). firstTrue (a ∷ map (holds m) ls) (b ∷ map (holds u) ls)) e f
 
 module _ (atoms : List ℕ) (some : (a : ℕ) → Mem a atoms → 1 ≤ a) (closes : Node → Bool) where

@@ -76,7 +76,11 @@ firstTrue (true ∷ xs) (false ∷ ys) = true
 firstTrue (false ∷ xs) (true ∷ ys) = false
 firstTrue (false ∷ xs) (false ∷ ys) = firstTrue xs ys
 
+-- as far as these literals go
+unfoldable pub before : List Lit → ℕ → ℕ → Bool
+before ls m u = firstTrue (map (holds m) ls) (map (holds u) ls)
+
 -- "Of two models, look at objective positions from 0: at the first where satisfaction differs, the satisfying model comes first. If none
 -- differs, look at atoms from 1: at the first that differs, the one with true comes first."
 unfoldable pub earlier : Sheet → ℕ → ℕ → Bool
-earlier x m u = firstTrue (map (holds m) (readings x)) (map (holds u) (readings x))
+earlier x m u = before (readings x) m u
