@@ -2,14 +2,14 @@
 -- rests on this file; it links the code's own functions.
 use Prim.Native.Nat.{ℕ, _-_, _≤_}
 use mathlib.Core.Bool.{not}
-use mathlib.Core.List.{List, _++_, map}
+use mathlib.Core.List.{List, map}
 use mathlib.Core.Path.{_≡_}
-use lib.ListN.{length, drop}
+use lib.ListN.{length}
 use Rattle.prepare.specs.declared.clauses.Literals.{Literals}
 use Rattle.prepare.specs.declared.order.Named.{Named}
 use Rattle.sheet.specs.Literals.{Lit, plain, place, plains, byteOf}
 use Rattle.sheet.specs.Order.{names}
-use Rattle.words.specs.Lists.{any, pick}
+use Rattle.words.specs.Lists.{any, over, pick}
 use Rattle.words.specs.Positions.{has, setOf}
 
 -- the atoms that stand negated among some literals
@@ -24,4 +24,4 @@ setsOf ls = record { plains = plains ls; negated = negated ls }
 pub record Ordered (so : List Lit) (before : List ℕ) (o : Named) (buffer : List ℕ) : Type 0 where
   pub counted : o .count ≡ length so
   pub named : (a : ℕ) → 1 ≤ a → has (o .atoms) (a - 1) ≡ any (names a) so
-  pub written : buffer ≡ map byteOf so ++ drop (o .count) before
+  pub written : buffer ≡ over (map byteOf so) before
