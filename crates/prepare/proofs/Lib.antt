@@ -1,3 +1,4 @@
 -- What the proofs of several functions use, in this crate and above it.
 pub mod SetLaws
 pub mod OrderLaws
+pub mod Preparing

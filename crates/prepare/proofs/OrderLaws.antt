@@ -14,11 +14,12 @@ use Rattle.prepare.specs.declared.order.Named.{Named}
 use Rattle.sheet.proofs.BranchLaws.{taking-old, taking-new, names-taking, taking-append}
 use Rattle.sheet.specs.Layout.{byte, atomCount, objectiveBytes}
 use Rattle.sheet.specs.Literals.{Lit, pos, atom, literal, byteOf}
-use Rattle.sheet.specs.Order.{names, taking, takingAll, branch}
+use Rattle.sheet.specs.Order.{upTo, names, taking, takingAll, branch}
 use Rattle.sheet.specs.Reading.{sheetOf}
 use Rattle.words.proofs.Bits.{has-adding, has-none}
 use Rattle.words.proofs.Bools.{same-test}
-use Rattle.words.proofs.Lists.{put-next, map-below-next}
+use Rattle.words.proofs.Lists.{put-over, map-below-next}
+use Rattle.words.specs.Lists.{over}
 use Rattle.words.specs.Positions.{has, adding}
 
 -- one entry more of a list, and one atom more
@@ -29,10 +30,11 @@ taking-next so bs i h =
     ∙ ap (takingAll so) (map-append literal (take i bs) (byte bs i ∷ []))
     ∙ taking-append so (map literal (take i bs)) (literal (byte bs i) ∷ [])
 
-pub taking-atom : (so : List Lit) (a : ℕ) → takingAll so (ascending (a + 1)) ≡ taking (takingAll so (ascending a)) (pos (a + 1))
+pub taking-atom : (so : List Lit) (a : ℕ) → takingAll so (map pos (upTo (a + 1))) ≡ taking (takingAll so (map pos (upTo a))) (pos (a + 1))
 taking-atom so a =
-    ap (takingAll so) (map-below-next (λ i. pos (suc i)) a) ∙ taking-append so (ascending a) (pos (suc a) ∷ [])
-    ∙ ap (λ (k : ℕ). taking (takingAll so (ascending a)) (pos k)) (sym (add-one a))
+    ap (takingAll so) (ap (map pos) (map-below-next suc a) ∙ map-append pos (upTo a) (suc a ∷ []))
+    ∙ taking-append so (map pos (upTo a)) (pos (suc a) ∷ [])
+    ∙ ap (λ (k : ℕ). taking (takingAll so (map pos (upTo a))) (pos k)) (sym (add-one a))
 
 -- ---- the order in its buffer
 
@@ -40,6 +42,9 @@ pub nothing-ordered : (before : List ℕ) → Ordered [] before (record { atoms 
 nothing-ordered before = record { counted = refl; named = λ a _. has-none (a - 1); written = refl }
 
 module _ {so : List Lit} {before buffer : List ℕ} {o : Named} (l : Lit) (is : Ordered so before o buffer) where
+  as-many : length (map byteOf so) ≡ o .count
+  as-many = length-map so byteOf ∙ sym (is .counted)
+
   -- the set has the atom where the order names it
   pub keeps : 1 ≤ atom l → has (o .atoms) (atom l - 1) ≡ true → Ordered (taking so l) before o buffer
   keeps some t =
@@ -49,9 +54,8 @@ module _ {so : List Lit} {before buffer : List ℕ} {o : Named} (l : Lit) (is : 
   -- a place that the buffer has was there before
   was-there : o .count < length buffer → o .count < length before
   was-there h =
-      let e : length buffer ≡ o .count + (length before - o .count) =
-      ap length (is .written) ∙ length-append (map byteOf so) (drop (o .count) before) ∙ ap₂ _+_ (length-map so byteOf ∙ sym (is .counted)) (length-drop (o .count) before) in
-      omega arith
+      let bytes = map byteOf so in
+      omega (arith, as-many, ap length (is .written) ∙ length-append bytes (drop (length bytes) before), length-drop (length bytes) before)
 
   pub puts : 1 ≤ atom l → has (o .atoms) (atom l - 1) ≡ false → o .count < length buffer → {w v : ℕ} → w ≡ adding (o .atoms) (atom l - 1) → v ≡ byteOf l
       → Ordered (taking so l) before (record { atoms = w; count = o .count + 1 }) (set buffer (o .count) v)
@@ -61,8 +65,8 @@ module _ {so : List Lit} {before buffer : List ℕ} {o : Named} (l : Lit) (is : 
         named = λ a h. ap (λ (x : ℕ). has x (a - 1)) f ∙ has-adding (o .atoms) (atom l - 1) (a - 1) ∙ ap₂ _||_ (is .named a h) (same-atom a h) ∙ sym (names-taking so l a);
         written =
             ap₂ (λ (x : List ℕ) (y : ℕ). set x (o .count) y) (is .written) g
-            ∙ put-next (map byteOf so) before (o .count) (byteOf l) 0 (length-map so byteOf ∙ sym (is .counted)) (was-there fits)
-            ∙ ap (λ (x : List ℕ). x ++ drop (o .count + 1) before) (sym (map-append byteOf so (l ∷ [])) ∙ ap (map byteOf) (sym e));
+            ∙ put-over (map byteOf so) before (o .count) (byteOf l) 0 as-many (was-there fits)
+            ∙ ap (λ (x : List ℕ). over x before) (sym (map-append byteOf so (l ∷ [])) ∙ ap (map byteOf) (sym e));
       }
     where
       e : taking so l ≡ so ++ (l ∷ [])
@@ -75,6 +79,6 @@ module _ {so : List Lit} {before buffer : List ℕ} {o : Named} (l : Lit) (is : 
           (λ t. let q = eqb-true (atom l) a t in eq-eqb (a - 1) (atom l - 1) (omega arith))
 
 -- the objectives first, then the atoms
-pub branch-is : (s : List ℕ) → takingAll (takingAll [] (map literal (objectiveBytes s))) (ascending (atomCount s)) ≡ branch (sheetOf s)
+pub branch-is : (s : List ℕ) → takingAll (takingAll [] (map literal (objectiveBytes s))) (map pos (upTo (atomCount s))) ≡ branch (sheetOf s)
 unfolding branch sheetOf
-branch-is s = sym (taking-append [] (map literal (objectiveBytes s)) (ascending (atomCount s)))
+branch-is s = sym (taking-append [] (map literal (objectiveBytes s)) (map pos (upTo (atomCount s))))

@@ -2,13 +2,13 @@
 use Prim.Native.Nat.{ℕ, _+_, _-_, _<_}
 use mathlib.Core.List.{List, [], _∷_, _++_, map, map-append}
 use mathlib.Core.Path.{_≡_, refl, sym, ap, _∙_}
-use lib.ListN.{length, drop, set, length-map}
+use lib.ListN.{length, set, length-map}
 use Rattle.prepare.specs.Carried.{negated, setsOf}
 use Rattle.prepare.specs.declared.clauses.Literals.{Literals}
 use Rattle.sheet.specs.Layout.{clauseBytes}
 use Rattle.sheet.specs.Literals.{Lit, pos, neg, literal, plains}
-use Rattle.words.proofs.Lists.{length-below, put-next, map-below-next}
-use Rattle.words.specs.Lists.{below}
+use Rattle.words.proofs.Lists.{length-below, put-over, map-below-next}
+use Rattle.words.specs.Lists.{over, below}
 use Rattle.words.specs.Positions.{adding, setOf}
 
 -- ---- one literal more in a clause's two sets
@@ -41,8 +41,8 @@ module _ (set-of : List Lit → ℕ) (s : List ℕ) where
   pub length-sets : (i : ℕ) → length (firstSets i) ≡ i
   length-sets i = length-map (map (literalsOf s) (below i)) set-of ∙ length-map (below i) (literalsOf s) ∙ length-below i
 
-  pub next-set : (d : List ℕ) (i v : ℕ) → v ≡ set-of (literalsOf s i) → i < length d → set (firstSets i ++ drop i d) i v ≡ firstSets (i + 1) ++ drop (i + 1) d
+  pub next-set : (d : List ℕ) (i v : ℕ) → v ≡ set-of (literalsOf s i) → i < length d → set (over (firstSets i) d) i v ≡ over (firstSets (i + 1)) d
   next-set d i v e h =
-      put-next (firstSets i) d i v 0 (length-sets i) h
-      ∙ ap (λ (x : ℕ). (firstSets i ++ (x ∷ [])) ++ drop (i + 1) d) e
-      ∙ ap (λ (l : List ℕ). l ++ drop (i + 1) d) (sym (ap (map set-of) (map-below-next (literalsOf s) i) ∙ map-append set-of (map (literalsOf s) (below i)) (literalsOf s i ∷ [])))
+      put-over (firstSets i) d i v 0 (length-sets i) h
+      ∙ ap (λ (x : ℕ). over (firstSets i ++ (x ∷ [])) d) e
+      ∙ ap (λ (l : List ℕ). over l d) (sym (ap (map set-of) (map-below-next (literalsOf s) i) ∙ map-append set-of (map (literalsOf s) (below i)) (literalsOf s i ∷ [])))

@@ -1,10 +1,10 @@
 // The clauses of an accepted sheet, each as two sets of atoms: atom a is position a - 1.
 ghost use mathlib.Core.Path.{_≡_};
 ghost use mathlib.Core.Bool.{true};
-ghost use mathlib.Core.List.{List, _∷_, _++_, map};
+ghost use mathlib.Core.List.{List, _∷_, map};
 ghost use Prim.Native.Nat.{_≤_};
-ghost use lib.ListN.{length, drop};
-ghost use Rattle.words.specs.Lists.{all};
+ghost use lib.ListN.{length};
+ghost use Rattle.words.specs.Lists.{all, over};
 ghost use Rattle.sheet.specs.Literals.{Lit, literal, isLiteral, plains as plainAtoms};
 ghost use Rattle.sheet.specs.Layout.{clauseCount};
 ghost use Rattle.sheet.specs.Reading.{sheetOf, Accepted};
@@ -62,8 +62,8 @@ fn clause_of(bytes: &[u8]) -> Literals
 pub fn clauses_into(s: &[u8], plains: &mut [u64], negated: &mut [u64])
     requires { ⌜ Accepted (now s) ⌝ }
     requires { ⌜ (clauseCount (now s) ≤ length (now plains)) × (clauseCount (now s) ≤ length (now negated)) ⌝ }
-    ensures { λ _. ⌜ now (plains .exit) ≡ map plainAtoms (sheetOf (now (s .entry)) .clauses) ++ drop (clauseCount (now (s .entry))) (now (plains .entry)) ⌝ }
-    ensures { λ _. ⌜ now (negated .exit) ≡ map negatedAtoms (sheetOf (now (s .entry)) .clauses) ++ drop (clauseCount (now (s .entry))) (now (negated .entry)) ⌝ }
+    ensures { λ _. ⌜ now (plains .exit) ≡ over (map plainAtoms (sheetOf (now (s .entry)) .clauses)) (now (plains .entry)) ⌝ }
+    ensures { λ _. ⌜ now (negated .exit) ≡ over (map negatedAtoms (sheetOf (now (s .entry)) .clauses)) (now (negated .entry)) ⌝ }
 {
     let clauses = word_at(s, 4) as usize;
     let literals_at = 32 + 4 * clauses;

@@ -1,12 +1,12 @@
 // What the walk goes by: the objectives of an accepted sheet, and the branch order.
 ghost use mathlib.Core.Path.{_≡_};
 ghost use mathlib.Core.Bool.{true};
-ghost use mathlib.Core.List.{List, [], _++_, map};
+ghost use mathlib.Core.List.{List, [], map};
 ghost use Prim.Native.Nat.{ℕ, _+_, _≤_, _<_};
-ghost use lib.ListN.{length, drop};
-ghost use Rattle.words.specs.Lists.{all};
-ghost use Rattle.sheet.specs.Literals.{Lit, literal, isLiteral, byteOf};
-ghost use Rattle.sheet.specs.Layout.{atomCount, objectiveBytes};
+ghost use lib.ListN.{length};
+ghost use Rattle.words.specs.Lists.{all, over};
+ghost use Rattle.sheet.specs.Literals.{Lit, pos, literal, isLiteral, byteOf};
+ghost use Rattle.sheet.specs.Layout.{objectiveBytes};
 ghost use Rattle.sheet.specs.Reading.{sheetOf, Accepted};
 ghost use Rattle.sheet.specs.Order.{taking, takingAll, branch, upTo};
 ghost use Rattle.prepare.specs.Carried.{Ordered};
@@ -70,7 +70,7 @@ fn take_objectives(order: &mut [u8], bytes: &[u8]) -> Named
 // Goes on with the atoms 1 to n.
 fn take_atoms(order: &mut [u8], begun: Named, n: u8) -> Named
     requires { ⌜ (n ≤ 64) × (begun .count + n ≤ length (now order)) ⌝ }
-    ensures { λ r. ⌜ ((so : List Lit) (before : List ℕ) → Ordered so before begun (now (order .entry)) → Ordered (takingAll so (upTo n)) before r (now (order .exit))) ⌝ }
+    ensures { λ r. ⌜ ((so : List Lit) (before : List ℕ) → Ordered so before begun (now (order .entry)) → Ordered (takingAll so (map pos (upTo n))) before r (now (order .exit))) ⌝ }
 {
     let mut o = begun;
     let mut a = 0u8;
@@ -85,7 +85,7 @@ fn take_atoms(order: &mut [u8], begun: Named, n: u8) -> Named
 pub fn branch_order(s: &[u8], order: &mut [u8])
     requires { ⌜ Accepted (now s) ⌝ }
     requires { ⌜ 128 ≤ length (now order) ⌝ }
-    ensures { λ _. ⌜ now (order .exit) ≡ map byteOf (branch (sheetOf (now (s .entry)))) ++ drop (atomCount (now (s .entry))) (now (order .entry)) ⌝ }
+    ensures { λ _. ⌜ now (order .exit) ≡ over (map byteOf (branch (sheetOf (now (s .entry))))) (now (order .entry)) ⌝ }
 {
     let begun = take_objectives(order, objectives(s));
     take_atoms(order, begun, word_at(s, 0) as u8);

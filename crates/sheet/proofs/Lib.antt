@@ -1,5 +1,6 @@
 -- What the proofs of several functions use, in this crate and above it, and what is proved of the definitions besides.
 pub mod Literals
+pub mod LiteralBytes
 pub mod Numbers
 pub mod Table
 pub mod ExactlyOne

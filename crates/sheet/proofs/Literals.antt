@@ -84,10 +84,13 @@ module _ (low high : ℕ) {r x : ℕ} (e : r ≡ x) where
   pub read-past : high < r → between low high x ≡ false
   read-past h = ap (between low high) (sym e) ∙ between-past low high r h
 
--- ---- an atom as a byte
+-- ---- atoms and their negations as bytes
 
 pub atom-literal : (a : ℕ) → 1 ≤ a → a ≤ 64 → isLiteral 64 a ≡ true
 atom-literal a l h = low-byte 64 a (lit≤ tt) (omega arith) ∙ between-holds 1 64 a l h
+
+pub negation-literal : (b : ℕ) → 192 ≤ b → b < 256 → isLiteral 64 b ≡ true
+negation-literal b l h = high-byte 64 b (lit≤ tt) (omega arith) h ∙ between-holds 1 64 (256 - b) (omega arith) (omega arith)
 
 -- ---- literals of other numbers of atoms
 

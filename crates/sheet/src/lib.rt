@@ -1,7 +1,7 @@
 // The check sheet of document 01: refused with its number, or understood as clauses and objectives.
 ghost use mathlib.Core.Path.{_≡_};
 ghost use Rattle.sheet.specs.Reading.{read};
-ghost use Rattle.sheet.specs.Answers.{answer};
+ghost use Rattle.sheet.specs.Answers.{checkOf};
 
 pub mod bytes;
 pub mod literal;
@@ -12,12 +12,12 @@ pub enum Checked {
     // One of 10 to 15.
     Refused(u8),
     // The numbers of atoms, clauses and objectives.
-    Accepted(u8, usize, usize),
+    Sizes(u8, usize, usize),
 }
 
 // The first check that applies answers, in the order of the document's table.
 pub fn check(s: &[u8]) -> Checked
-    ensures { λ r. ⌜ r ≡ answer (read (now (s .entry))) ⌝ }
+    ensures { λ r. ⌜ r ≡ checkOf (read (now (s .entry))) ⌝ }
 {
     if s.len() < 32 {
         return Checked::Refused(10);
@@ -37,7 +37,7 @@ pub fn check(s: &[u8]) -> Checked
     if refusals::bad_objective(s) {
         return Checked::Refused(15);
     }
-    Checked::Accepted(
+    Checked::Sizes(
         bytes::word_at(s, 0) as u8,
         bytes::word_at(s, 4) as usize,
         bytes::word_at(s, 8) as usize,

@@ -1,7 +1,8 @@
 // A byte as a literal: its two's complement number, whose sign is the literal's and whose distance from zero is the atom.
 ghost use mathlib.Core.Path.{_≡_};
+ghost use mathlib.Core.Bool.{true};
 ghost use Prim.Native.Nat.{_≤_};
-ghost use Rattle.sheet.specs.Literals.{signed as signedNumber, isLiteral};
+ghost use Rattle.sheet.specs.Literals.{signed as signedNumber, literal, isLiteral, complement as complementOf};
 ghost use Rattle.sheet.specs.Answers.{literalAnswer};
 
 // What a byte is among the literals of some atoms.
@@ -57,4 +58,12 @@ pub fn is_literal(b: u8, n: u8) -> bool
         Literal::Of(_, _) => true,
         Literal::Neither => false,
     }
+}
+
+// The byte of the complement of a literal.
+pub fn complement(b: u8) -> u8
+    requires { ⌜ isLiteral 64 b ≡ true ⌝ }
+    ensures { λ r. ⌜ (isLiteral 64 r ≡ true) × (literal r ≡ complementOf (literal b)) ⌝ }
+{
+    255 - b + 1
 }

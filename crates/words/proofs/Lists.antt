@@ -9,7 +9,7 @@ use native.Mathlib.Numerals.{add-one}
 use native.Mathlib.Omega.{arith}
 use lib.ListN.{length, getD, drop, set, length-append, drop-of-length-le, List·getD-append}
 use lib.Seq.{drop-cons, getD-at, set-at, append-snoc}
-use Rattle.words.specs.Lists.{any, all, below}
+use Rattle.words.specs.Lists.{any, all, over, below}
 
 -- the rest of a list from i on: its entry i, and what follows
 pub onward : {A : Type 0} (d : A) (xs : List A) (i : ℕ) → i < length xs → drop i xs ≡ getD xs i d ∷ drop (i + 1) xs
@@ -72,6 +72,12 @@ module _ (f : ℕ → Bool) (n i : ℕ) where
 pub put-next : {A : Type 0} (xs d : List A) (i : ℕ) (v z : A) → length xs ≡ i → i < length d → set (xs ++ drop i d) i v ≡ (xs ++ (v ∷ [])) ++ drop (i + 1) d
 put-next xs d i v z e h =
     ap (λ l. set (xs ++ l) i v) (onward z d i h) ∙ set-at xs (getD d i z) (drop (i + 1) d) v i e ∙ sym (append-snoc xs v (drop (i + 1) d))
+
+pub put-over : {A : Type 0} (xs d : List A) (i : ℕ) (v z : A) → length xs ≡ i → i < length d → set (over xs d) i v ≡ over (xs ++ (v ∷ [])) d
+put-over xs d i v z e h =
+    ap (λ (k : ℕ). set (xs ++ drop k d) i v) e
+    ∙ put-next xs d i v z e h
+    ∙ ap (λ (k : ℕ). (xs ++ (v ∷ [])) ++ drop k d) (sym (length-append xs (v ∷ []) ∙ ap (λ (k : ℕ). k + 1) e))
 
 pub map-below-next : {B : Type 0} (f : ℕ → B) (i : ℕ) → map f (below (i + 1)) ≡ map f (below i) ++ (f i ∷ [])
 unfolding below

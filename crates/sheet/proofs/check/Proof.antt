@@ -7,10 +7,10 @@ use Rattle.sheet.proofs.Table.{short-yes, short-no, counted, placed, re
 use Rattle.sheet.proofs.Understood.{atoms-are, clauses-counted, objectives-counted}
 use Rattle.sheet.proofs.check.Statement.{statement}
 use Rattle.sheet.proofs.check.Tie as tie
-use Rattle.sheet.specs.Answers.{answer}
+use Rattle.sheet.specs.Answers.{checkOf}
 use Rattle.sheet.specs.Passed.{Counted, Whole}
 use Rattle.sheet.specs.Reading.{short, outOfRange, misplaced, badEnds, read}
-use Rattle.sheet.specs.declared.Checked.the-variants.{Accepted}
+use Rattle.sheet.specs.declared.Checked.the-variants.{Sizes}
 
 long : (c : tie.Else1) → short (c .before .before .args .s .now) ≡ false
 long c = short-no _ (c .if1 .left)
@@ -33,21 +33,21 @@ ends-rise c = sym (c .before .bad-ends .ensures) ∙ c .if4 .left
 -- all rows, once the last is known
 rows : (c : tie.After-bad-objective) {f : Bool} → c .bad-objective .result ≡ f
     → let s = c .before .before .before .before .before .before .before .before .before .before .before .args .s .now in
-    answer (readBy s false false false false false f) ≡ answer (read s)
+    checkOf (readBy s false false false false false f) ≡ checkOf (read s)
 rows c e =
     let u = c .before .before .before in
     let v = u .before .before in
-    ap answer (read-is _ (long (v .before .before .before .before)) (in-range (v .before .before)) (in-place v) (ends-rise u)
+    ap checkOf (read-is _ (long (v .before .before .before .before)) (in-range (v .before .before)) (in-place v) (ends-rise u)
     (sym (c .before .before .bad-literal .ensures) ∙ c .before .if5 .left) (sym (c .bad-objective .ensures) ∙ e))
 
 returns : tie.Need-returns
-returns c = ap answer (read-is _ (short-yes _ (c .if1 .taken)) refl refl refl refl refl)
+returns c = ap checkOf (read-is _ (short-yes _ (c .if1 .taken)) refl refl refl refl refl)
 
 out-of-range-requires : tie.Need-out-of-range-requires
 out-of-range-requires c κs = search needs
 
 returns-2 : tie.Need-returns-2
-returns-2 c = ap answer (read-is _ (long (c .before .before)) (sym (c .before .out-of-range .ensures) ∙ c .if2 .taken) refl refl refl refl)
+returns-2 c = ap checkOf (read-is _ (long (c .before .before)) (sym (c .before .out-of-range .ensures) ∙ c .if2 .taken) refl refl refl refl)
 
 misplaced-requires : tie.Need-misplaced-requires
 misplaced-requires c κs = is-counted c
@@ -55,7 +55,7 @@ misplaced-requires c κs = is-counted c
 returns-3 : tie.Need-returns-3
 returns-3 c =
     let u = c .before .before in
-    ap answer (read-is _ (long (u .before .before)) (in-range u) (sym (c .before .misplaced .ensures) ∙ c .if3 .taken) refl refl refl)
+    ap checkOf (read-is _ (long (u .before .before)) (in-range u) (sym (c .before .misplaced .ensures) ∙ c .if3 .taken) refl refl refl)
 
 bad-ends-requires : tie.Need-bad-ends-requires
 bad-ends-requires c κs = is-placed c
@@ -63,7 +63,7 @@ bad-ends-requires c κs = is-placed c
 returns-4 : tie.Need-returns-4
 returns-4 c =
     let u = c .before .before in
-    ap answer (read-is _ (long (u .before .before .before .before)) (in-range (u .before .before)) (in-place u) (sym (c .before .bad-ends .ensures) ∙ c .if4 .taken) refl refl)
+    ap checkOf (read-is _ (long (u .before .before .before .before)) (in-range (u .before .before)) (in-place u) (sym (c .before .bad-ends .ensures) ∙ c .if4 .taken) refl refl)
 
 bad-literal-requires : tie.Need-bad-literal-requires
 bad-literal-requires c κs = is-placed (c .before .before)
@@ -72,7 +72,7 @@ returns-5 : tie.Need-returns-5
 returns-5 c =
     let u = c .before .before in
     let v = u .before .before in
-    ap answer (read-is _ (long (v .before .before .before .before)) (in-range (v .before .before)) (in-place v) (ends-rise u) (sym (c .before .bad-literal .ensures) ∙ c .if5 .taken) refl)
+    ap checkOf (read-is _ (long (v .before .before .before .before)) (in-range (v .before .before)) (in-place v) (ends-rise u) (sym (c .before .bad-literal .ensures) ∙ c .if5 .taken) refl)
 
 bad-objective-requires : tie.Need-bad-objective-requires
 bad-objective-requires c κs = is-placed (c .before .before .before .before)
@@ -102,7 +102,7 @@ returns-7 : tie.Need-returns-7
 returns-7 c =
     let u = c .before .before .before in
     let p = is-placed (u .before .before .before .before .before .before) in
-    (λ i. Accepted ((c .before .before .word-at .ensures ∙ sym (atoms-are _)) i) ((c .before .word-at2 .ensures ∙ sym (clauses-counted _)) i) ((c .word-at3 .ensures ∙ sym (objectives-counted _ p)) i))
+    (λ i. Sizes ((c .before .before .word-at .ensures ∙ sym (atoms-are _)) i) ((c .before .word-at2 .ensures ∙ sym (clauses-counted _)) i) ((c .word-at3 .ensures ∙ sym (objectives-counted _ p)) i))
     ∙ rows (u .before) (u .if6 .left)
 
 pub check-spec : {M : Type 1} → statement M

@@ -1,9 +1,9 @@
 -- `prepare::clauses::clauses_into`: after i turns the first i places hold the sets of the first i clauses, and the others what they held. Assumes nothing.
 use Prim.Native.Nat.{ℕ, _+_, _-_, _*_, _≤_, _<_}
-use mathlib.Core.List.{List, _++_, map}
+use mathlib.Core.List.{List, map}
 use mathlib.Core.Path.{_≡_, refl, sym, ap, _∙_, subst, subst₂}
 use native.Mathlib.Omega.{arith}
-use lib.ListN.{length, drop, set, length-set}
+use lib.ListN.{length, set, length-set}
 use borrow.Author.Needs.{needs}
 use Rattle.prepare.proofs.SetLaws.{firstSets, no-sets, next-set}
 use Rattle.prepare.specs.Carried.{setsOf, negated as negatedAtoms}
@@ -17,7 +17,7 @@ use Rattle.sheet.specs.Literals.{literal, isLiteral, plains as plainAtoms}
 use Rattle.sheet.specs.Passed.{Whole}
 use Rattle.sheet.specs.Reading.{sheetOf}
 use Rattle.prepare.specs.declared.clauses.Literals.{Literals}
-use Rattle.words.specs.Lists.{all}
+use Rattle.words.specs.Lists.{all, over}
 
 abbrev Inv-loop : tie.InvT-loop
 Inv-loop s plains₀ negated₀ clauses literals-at start₀ i₀ plains negated start i =
@@ -25,8 +25,8 @@ Inv-loop s plains₀ negated₀ clauses literals-at start₀ i₀ plains negated
     × (start ≡ clauseStart s i)
     × (length plains ≡ length plains₀)
     × (length negated ≡ length negated₀)
-    × (plains ≡ firstSets plainAtoms s i ++ drop i plains₀)
-    × (negated ≡ firstSets negatedAtoms s i ++ drop i negated₀)
+    × (plains ≡ over (firstSets plainAtoms s i) plains₀)
+    × (negated ≡ over (firstSets negatedAtoms s i) negated₀)
 
 abbrev μ-loop : tie.MeasureT-loop
 μ-loop s plains₀ negated₀ clauses literals-at start₀ i₀ plains negated start i = clauses - i
@@ -85,7 +85,7 @@ add-literals-at c = search needs
 loop-holds : tie.Need-loop-holds Inv-loop μ-loop
 loop-holds c =
     let a = c .before .before .before .before .args in
-    (omega arith, refl, refl, refl, ap (λ (l : List ℕ). l ++ a .plains .now) (sym (no-sets plainAtoms (a .s .now))), ap (λ (l : List ℕ). l ++ a .negated .now) (sym (no-sets negatedAtoms (a .s .now))))
+    (omega arith, refl, refl, refl, ap (λ (l : List ℕ). over l (a .plains .now)) (sym (no-sets plainAtoms (a .s .now))), ap (λ (l : List ℕ). over l (a .negated .now)) (sym (no-sets negatedAtoms (a .s .now))))
 
 mul-word-at : tie.Need-mul-word-at Inv-loop μ-loop
 mul-word-at c = omega (arith, few (c .before .before))
@@ -167,8 +167,8 @@ returns c =
     let a = u .before .before .before .before .args in
     let last : l .i ≡ u .word-at .result = omega arith in
     let all : l .i ≡ clauseCount (a .s .now) = last ∙ u .word-at .ensures in (
-      l .inv .4 ∙ ap (λ (i : ℕ). firstSets plainAtoms (a .s .now) i ++ drop i (a .plains .now)) all,
-      l .inv .5 ∙ ap (λ (i : ℕ). firstSets negatedAtoms (a .s .now) i ++ drop i (a .negated .now)) all,
+      l .inv .4 ∙ ap (λ (i : ℕ). over (firstSets plainAtoms (a .s .now) i) (a .plains .now)) all,
+      l .inv .5 ∙ ap (λ (i : ℕ). over (firstSets negatedAtoms (a .s .now) i) (a .negated .now)) all,
     )
 
 pub clauses-into-spec : {M : Type 1} → statement M

@@ -1,19 +1,18 @@
--- `prepare::order::branch_order`: the objectives first, then the atoms; it is as long as there are atoms, since it names each once. Assumes nothing.
-use Prim.Native.Nat.{ℕ, _≤_}
-use mathlib.Core.List.{List, [], _++_, map}
+-- `prepare::order::branch_order`: the objectives first, then the atoms. Assumes nothing.
+use Prim.Native.Nat.{_≤_}
+use mathlib.Core.List.{List, [], map}
 use mathlib.Core.Path.{ap, _∙_, subst}
 use native.Mathlib.Omega.{arith}
-use lib.ListN.{length, drop}
+use lib.ListN.{length}
 use borrow.Author.Needs.{needs}
 use Rattle.prepare.proofs.OrderLaws.{branch-is}
 use Rattle.prepare.specs.Carried.{Ordered}
-use Rattle.sheet.proofs.EachOnce.{objectives-literals, names-each-once}
+use Rattle.sheet.proofs.Atoms.{objectives-literals}
 use Rattle.sheet.proofs.Understood.{passed, objective-bytes-counted}
 use Rattle.prepare.proofs.order.branch_order.Statement.{statement}
 use Rattle.prepare.proofs.order.branch_order.Tie as tie
-use Rattle.sheet.specs.Literals.{Lit, literal, isLiteral, byteOf}
-use Rattle.sheet.specs.Order.{takingAll, branch, upTo}
-use Rattle.sheet.specs.Reading.{sheetOf}
+use Rattle.sheet.specs.Literals.{Lit, pos, literal, isLiteral}
+use Rattle.sheet.specs.Order.{takingAll, upTo}
 use Rattle.words.specs.Lists.{all}
 
 few-atoms : (c : tie.After-word-at) → c .word-at .result ≤ 64
@@ -54,12 +53,8 @@ returns c =
     let w = c .before .before .before in
     let u = w .before .before .before .before in
     let s = u .before .before .before .before .before in
-    let ordered : Ordered (branch (sheetOf (s .args .s .now))) (s .args .order .now) (r .result) (r .last .0) =
-    subst (λ (so : List Lit). Ordered so (s .args .order .now) (r .result) (r .last .0))
-    ((λ i. takingAll (takingAll [] (map literal (u .before .objectives .ensures i))) (upTo (w .word-at .ensures i))) ∙ branch-is (s .args .s .now))
-    (r .ensures _ _ (u .take-objectives .ensures .0)) in
-    ordered .written
-    ∙ ap (λ (k : ℕ). map byteOf (branch (sheetOf (s .args .s .now))) ++ drop k (s .args .order .now)) (ordered .counted ∙ names-each-once _ (s .pre .0) .counted)
+    let order-is = (λ i. takingAll (takingAll [] (map literal (u .before .objectives .ensures i))) (map pos (upTo (w .word-at .ensures i)))) ∙ branch-is (s .args .s .now) in
+    subst (λ (so : List Lit). Ordered so (s .args .order .now) (r .result) (r .last .0)) order-is (r .ensures _ _ (u .take-objectives .ensures .0)) .written
 
 pub branch-order-spec : {M : Type 1} → statement M
 branch-order-spec =

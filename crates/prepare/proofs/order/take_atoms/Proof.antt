@@ -1,6 +1,6 @@
 -- `prepare::order::take_atoms`: after a turns the order goes on with the atoms 1 to a. Assumes nothing.
 use Prim.Native.Nat.{ℕ, _+_, _-_, _≤_}
-use mathlib.Core.List.{List}
+use mathlib.Core.List.{List, map}
 use mathlib.Core.Path.{_≡_, refl, sym, ap, _∙_, subst}
 use native.Mathlib.Omega.{arith}
 use lib.ListN.{length}
@@ -9,7 +9,7 @@ use Rattle.prepare.specs.Carried.{Ordered}
 use Rattle.sheet.proofs.Literals.{atom-literal, literal-low}
 use Rattle.prepare.proofs.order.take_atoms.Statement.{statement}
 use Rattle.prepare.proofs.order.take_atoms.Tie as tie
-use Rattle.sheet.specs.Literals.{Lit}
+use Rattle.sheet.specs.Literals.{Lit, pos}
 use Rattle.sheet.specs.Order.{taking, takingAll, upTo}
 use Rattle.words.specs.Lists.{below}
 
@@ -18,7 +18,7 @@ Inv-loop order₀ n o₀ a₀ order o a =
     (a ≤ n)
     × (o .count ≤ o₀ .count + a)
     × (length order ≡ length order₀)
-    × ((so : List Lit) (before : List ℕ) → Ordered so before o₀ order₀ → Ordered (takingAll so (upTo a)) before o order)
+    × ((so : List Lit) (before : List ℕ) → Ordered so before o₀ order₀ → Ordered (takingAll so (map pos (upTo a))) before o order)
 
 abbrev μ-loop : tie.MeasureT-loop
 μ-loop order₀ n o₀ a₀ order o a = n - a
@@ -48,7 +48,7 @@ loop-again c =
       omega (arith, r .ensures .1),
       r .kept .0 ∙ l .loop .inv .2,
       λ so before is. subst (λ (x : List Lit). Ordered x before (r .result) (r .last .0))
-          (ap (taking (takingAll so (upTo (l .loop .a)))) (literal-low (l .loop .a + 1) (omega (arith, u .pre .0))) ∙ sym (taking-atom so (l .loop .a)))
+          (ap (taking (takingAll so (map pos (upTo (l .loop .a))))) (literal-low (l .loop .a + 1) (omega (arith, u .pre .0))) ∙ sym (taking-atom so (l .loop .a)))
           (r .ensures .0 _ before (l .loop .inv .3 so before is)),
     )
 
@@ -59,7 +59,7 @@ returns : tie.Need-returns Inv-loop μ-loop
 returns c =
     let l = c .before .loop in
     let e : l .a ≡ c .before .before .before .args .n = omega arith in
-    λ so before is. subst (λ (a : ℕ). Ordered (takingAll so (upTo a)) before (l .o) (l .order)) e (l .inv .3 so before is)
+    λ so before is. subst (λ (a : ℕ). Ordered (takingAll so (map pos (upTo a))) before (l .o) (l .order)) e (l .inv .3 so before is)
 
 pub take-atoms-spec : {M : Type 1} → statement M
 take-atoms-spec =

@@ -1,0 +1,84 @@
+-- The tables of an accepted sheet are what a walk reads. Assumes nothing.
+use Prim.Native.Nat.{ℕ}
+use mathlib.Core.Bool.{true}
+use mathlib.Core.List.{List, map, List·Memᴰ as Mem, Memᴰ·of-map as of-map}
+use mathlib.Core.Path.{_≡_, refl, sym, ap, _∙_}
+use native.Mathlib.Omega.{arith}
+use lib.ListN.{length, take, length-map}
+use lib.Seq.{take-at}
+use Rattle.prepare.specs.Carried.{negated, Placed, Readable, Prepared, Tables}
+use Rattle.sheet.proofs.Atoms.{objectives-literals, clauses-valued, valued-placed}
+use Rattle.sheet.proofs.EachOnce.{names-each-once}
+use Rattle.sheet.proofs.LiteralBytes.{is-literal, literals-of-bytes}
+use Rattle.sheet.proofs.Understood.{passed, atoms-are, clauses-counted, objective-bytes-counted}
+use Rattle.sheet.specs.Layout.{atomCount, clauseCount, objectiveBytes}
+use Rattle.sheet.specs.Literals.{Lit, atom, literal, isLiteral, byteOf, plains}
+use Rattle.sheet.specs.Order.{branch}
+use Rattle.sheet.specs.Reading.{sheetOf, Accepted}
+use Rattle.words.proofs.Lists.{length-below}
+use Rattle.words.proofs.Members.{all-in}
+use Rattle.words.specs.Lists.{all, over, below}
+
+-- ---- the branch order of an accepted sheet
+
+module _ (s : List ℕ) (ok : Accepted s) where
+  branch-placed : Placed (branch (sheetOf s))
+  branch-placed l m = valued-placed s ok (atom l) (names-each-once s ok .apart .only l m)
+
+  branch-literal : (b : ℕ) → Mem b (map byteOf (branch (sheetOf s))) → isLiteral 64 b ≡ true
+  branch-literal b m = let u = of-map byteOf (branch (sheetOf s)) m in ap (isLiteral 64) (sym (u .2)) ∙ is-literal (u .0) (branch-placed (u .0) (u .1))
+
+  branch-counted : length (map byteOf (branch (sheetOf s))) ≡ atomCount s
+  branch-counted =
+      let n = sheetOf s .atoms in
+      length-map (branch (sheetOf s)) byteOf ∙ names-each-once s ok .counted ∙ length-map (below n) _ ∙ length-below n ∙ atoms-are s
+
+-- ---- what its tables are to a walk
+
+module _ {s o ps ns : List ℕ} (t : Tables s o ps ns) where
+  pub order-counted : length o ≡ atomCount s
+  order-counted = ap length (t .order) ∙ branch-counted s (t .accepted)
+
+  pub prepared : Prepared (sheetOf s) o (objectiveBytes s) ps ns
+  unfolding sheetOf
+  prepared =
+      let ok = t .accepted in
+      record {
+        clauses = record {
+          placed = λ c h l k. valued-placed s ok (atom l) (clauses-valued s ok c l h k);
+          plain = t .plain;
+          other = t .other;
+        };
+        order = ap (map literal) (t .order) ∙ literals-of-bytes (branch (sheetOf s)) (branch-placed s ok);
+        objectives = refl;
+        once = names-each-once s ok .apart .once;
+      }
+
+  pub readable : Readable o (objectiveBytes s) ps ns
+  readable =
+      let ok = t .accepted in
+      let p = passed s ok .sized in
+      record {
+        order = ap (all (isLiteral 64)) (t .order) ∙ all-in (isLiteral 64) (map byteOf (branch (sheetOf s))) (branch-literal s ok);
+        objectives = objectives-literals s ok;
+        few = omega (arith, objective-bytes-counted s p, p .counted .objectives);
+        even = ap length (t .plain) ∙ length-map (sheetOf s .clauses) plains ∙ sym (ap length (t .other) ∙ length-map (sheetOf s .clauses) negated);
+      }
+
+-- ---- where the tables stand
+
+sets-are : (s : List ℕ) (f : List Lit → ℕ) {ws : List ℕ} {m : ℕ} (rest : List ℕ) → ws ≡ over (map f (sheetOf s .clauses)) rest → m ≡ clauseCount s
+    → take m ws ≡ map f (sheetOf s .clauses)
+sets-are s f {m} rest e em = ap (take m) e ∙ take-at (map f (sheetOf s .clauses)) _ m (length-map (sheetOf s .clauses) f ∙ clauses-counted s ∙ sym em)
+
+-- in the first places of what they were written over
+pub tables : {s o ps ns : List ℕ} {n m : ℕ} (restO restP restN : List ℕ) → Accepted s → o ≡ over (map byteOf (branch (sheetOf s))) restO
+    → ps ≡ over (map plains (sheetOf s .clauses)) restP → ns ≡ over (map negated (sheetOf s .clauses)) restN → n ≡ atomCount s → m ≡ clauseCount s
+    → Tables s (take n o) (take m ps) (take m ns)
+tables {s} {n} restO restP restN ok eo ep eq en em =
+    record {
+      accepted = ok;
+      order = ap (take n) eo ∙ take-at (map byteOf (branch (sheetOf s))) _ n (branch-counted s ok ∙ sym en);
+      plain = sets-are s plains restP ep em;
+      other = sets-are s negated restN eq em;
+    }
