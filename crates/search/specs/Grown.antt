@@ -3,7 +3,7 @@ use Prim.Native.Nat.{ℕ}
 use mathlib.Core.Bool.{Bool, true, false}
 use mathlib.Core.List.{List, [], _∷_, _++_, map}
 use lib.Dec.{eqb}
-use Rattle.search.specs.Models.{holds, part, Preference}
+use Rattle.search.specs.Models.{holds, part, Preference, containment}
 use Rattle.search.specs.Search.{Game}
 use Rattle.search.specs.Tree.{Tree, closed, full, fork}
 use Rattle.sheet.specs.Literals.{Lit, pos, neg, complement, plains}
@@ -61,3 +61,7 @@ game rule p x q =
       candidates = grow (rule (candidateClauses x q)) (branch x) [];
       rivals = λ m. grow (rule (testClauses p x q m)) (branch x) [];
     }
+
+-- the question q posed on the sheet x, by the rules of this document
+abbrev pub posed : Sheet → Lit → Game
+posed = game falsified containment

@@ -1,7 +1,7 @@
 -- What a candidate does, as the code carries it: the ban of its test, the stored parts, and how the walk goes on. Assumes nothing.
 use Prim.Native.Nat.{ℕ, suc, _+_, _-_, _≤_, _<_}
 use mathlib.Core.Bool.{Bool, true, false, cond, _||_}
-use mathlib.Core.List.{List, [], _∷_, map, List·Memᴰ as Mem, List·Memᴰ·cases-cons as cases-cons, Memᴰ·of-map as of-map}
+use mathlib.Core.List.{List, [], _∷_, map, List·Memᴰ as Mem, List·Memᴰ·cases-cons as cases-cons, List·Memᴰ·eq-of-singleton as eq-of-singleton, Memᴰ·of-map as of-map}
 use mathlib.Core.Logic.{⊎-elim}
 use mathlib.Core.Path.{_≡_, refl, sym, ap, _∙_, subst}
 use native.Mathlib.Nat.{le-trans}
@@ -10,8 +10,8 @@ use native.Mathlib.Omega.{arith}
 use lib.ListN.{length, getD, take, drop, set}
 use lib.Seq.{drop-drop, drop-length, length-take-le, take-suc, take-suc-set}
 use borrow.Author.Tests.{lt-ltb, le-ltb}
-use Rattle.prepare.specs.Carried.{setsOf, negated}
-use Rattle.search.specs.Grown.{game}
+use Rattle.prepare.specs.Carried.{setsOf, negated, Placed}
+use Rattle.search.specs.Grown.{game, posed}
 use Rattle.search.specs.Models.{holds, part}
 use Rattle.search.specs.Search.{State, Yes, Cut, NoPlace, spent, found, withSteps, withTest, withPart, store, settle, meet, test, judge}
 use Rattle.search.specs.Tree.{on, off}
@@ -19,8 +19,8 @@ use Rattle.sheet.specs.Layout.{byte}
 use Rattle.sheet.specs.Literals.{Lit, pos, neg, atom, literal, isLiteral, complement, plains}
 use Rattle.sheet.specs.Order.{branch}
 use Rattle.sheet.specs.Reading.{Sheet}
-use Rattle.walk.proofs.Bytes.{in-atoms, complement-placed}
-use Rattle.walk.specs.Carried.{Placed, meetPart, testBelow, Onward}
+use Rattle.sheet.proofs.LiteralBytes.{in-atoms, complement-placed}
+use Rattle.walk.specs.Carried.{meetPart, testBelow, Onward}
 use Rattle.walk.specs.declared.candidates.Walked.{Walked}
 use Rattle.words.proofs.Bools.{or-false}
 use Rattle.words.proofs.Lists.{onward}
@@ -100,17 +100,20 @@ module _ (m n k : ℕ) (before : List ℕ) (s : State) {t : ℕ} (et : s .tests 
 -- ---- a candidate
 
 module _ (x : Sheet) (q : Lit) (allowance places m : ℕ) (s : State) {p : ℕ} (ep : p ≡ part (x .objectives) m) where
-  pub judge-passed : any (strictlyWithin p) (s .stored) ≡ true → judge (game x q) allowance places m s ≡ on s
+  pub judge-passed : any (strictlyWithin p) (s .stored) ≡ true → judge (posed x q) allowance places m s ≡ on s
   unfolding judge game
   judge-passed e = rw (ap (λ (r : ℕ). any (strictlyWithin r) (s .stored)) (sym ep) ∙ e, judge)
 
   pub judge-tests : any (strictlyWithin p) (s .stored) ≡ false
-      → judge (game x q) allowance places m s
+      → judge (posed x q) allowance places m s
       ≡ settle places m (withTest s) (testBelow (x .clauses) (complement q ∷ pick (holds m) (x .objectives)) (x .objectives) (branch x) [] (part (x .objectives) m) allowance (s .steps))
   unfolding judge game test meet meetPart
   judge-tests e = rw (ap (λ (r : ℕ). any (strictlyWithin r) (s .stored)) (sym ep) ∙ e, judge)
 
--- the literals that must hold in a test all have a place
+-- the literals that must hold in a walk all have a place: the question of the candidate walk, and what a test asks for
+pub question-placed : (b : ℕ) → isLiteral 64 b ≡ true → Placed (literal b ∷ [])
+question-placed b lit l h = subst (λ (x : Lit). (1 ≤ atom x) × (atom x ≤ 64)) (sym (eq-of-singleton h)) (in-atoms b lit)
+
 pub conditions-placed : (os : List ℕ) (m b : ℕ) → all (isLiteral 64) os ≡ true → isLiteral 64 b ≡ true → Placed (complement (literal b) ∷ pick (holds m) (map literal os))
 conditions-placed os m b each lit l h = ⊎-elim (λ e. subst (λ (x : Lit). (1 ≤ atom x) × (atom x ≤ 64)) (sym e) (complement-placed (literal b) (in-atoms b lit))) kept (cases-cons h)
   where
@@ -121,13 +124,10 @@ conditions-placed os m b each lit l h = ⊎-elim (λ e. subst (λ (x : Lit). (1 
 
 -- ---- from one state of the store to the next
 
-pub onward-from : {v w r : Walked} {before after : List ℕ} → v .stored ≡ w .stored → Onward v r before after → Onward w r before after
-onward-from {r = r} e o = record { sound = o .sound; grown = subst (λ (k : ℕ). k ≤ r .stored) e (o .grown); rest = o .rest }
-
-pub onward-trans : {w f r : Walked} {a b c : List ℕ} → Onward w f a b → Onward f r b c → Onward w r a c
+pub onward-trans : {k : ℕ} {f r : Walked} {a b c : List ℕ} → Onward k f a b → Onward (f .stored) r b c → Onward k r a c
 onward-trans {f = f} {r = r} {a = a} {b = b} o p =
     record {
-      sound = p .sound;
+      bounded = p .bounded;
       grown = le-trans (o .grown) (p .grown);
       rest = p .rest ∙ further b ∙ ap (drop (r .stored - f .stored)) (o .rest) ∙ sym (further a);
     }

@@ -1,5 +1,4 @@
 -- What the proofs of several functions use.
-pub mod Bytes
 pub mod Sets
 pub mod Parts
 pub mod Exits

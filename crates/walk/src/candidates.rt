@@ -1,28 +1,24 @@
 // The candidate walk, and what a candidate does.
 ghost use mathlib.Core.Path.{_≡_};
 ghost use mathlib.Core.Bool.{true, false};
-ghost use mathlib.Core.List.{List, [], _∷_, map};
-ghost use Prim.Native.Nat.{ℕ, _+_, _≤_, _<_};
-ghost use lib.ListN.{length, take, drop};
+ghost use mathlib.Core.List.{_∷_, map};
+ghost use Prim.Native.Nat.{_+_, _≤_, _<_};
+ghost use lib.ListN.{length};
 ghost use Rattle.words.specs.Lists.{any, all, pick};
 ghost use Rattle.words.specs.Positions.{strictlyWithin};
-ghost use Rattle.sheet.specs.Literals.{Lit, literal, isLiteral, complement as complementOf};
-ghost use Rattle.sheet.specs.Reading.{Sheet};
+ghost use Rattle.sheet.specs.Literals.{literal, isLiteral, complement as complementOf};
 ghost use Rattle.search.specs.Models.{holds as isTrue};
-ghost use Rattle.search.specs.Grown.{candidateClauses, game, grow};
-ghost use Rattle.search.specs.Search.{settle as settles, judge as judges, visitCandidate, search, State};
-ghost use Rattle.search.specs.Tree.{walk};
 ghost use Rattle.walk.specs.declared.candidates.Ending.the-variants.{Going as going};
-ghost use Rattle.walk.specs.Carried.{Placed, Readable, Prepared, told, stepsOf, stateOf, runOf, Sound, Onward};
-ghost use Rattle.prepare.specs.Carried.{setsOf};
+ghost use Rattle.walk.specs.Carried.{stepsOf, InBounds, Onward, TellsSettled, TellsJudged, TellsRoamed, TellsSearched};
+ghost use Rattle.prepare.specs.Carried.{setsOf, Readable};
 use crate::node::closed;
-use crate::node::complement;
 use crate::node::holds;
 use crate::node::part_of;
 use crate::test::Tried;
 use crate::test::seek;
-use sheet::clauses::Literals;
-use sheet::clauses::with_literal;
+use prepare::clauses::Literals;
+use prepare::clauses::with_literal;
+use sheet::literal::complement;
 
 // Why the candidate walk ends, if it does.
 pub enum Ending {
@@ -76,8 +72,8 @@ fn passed_over(stored: &[u64], part: u64) -> bool
 // How the candidate walk goes on after the test of a model.
 fn settle(tried: Tried, model: u64, tests: u64, stored: usize, store: &mut [u64]) -> Walked
     requires { ⌜ (tests ≤ stepsOf tried) × (stored ≤ length (now store)) ⌝ }
-    ensures { λ r. ⌜ ((s : State) → s .tests ≡ tests → s .stored ≡ take stored (now (store .entry)) → runOf r (now (store .exit)) ≡ settles (length (now (store .entry))) model s (told tried)) ⌝ }
-    ensures { λ r. ⌜ (Sound r (now (store .exit))) × ((stored ≤ r .stored) × (drop (r .stored) (now (store .exit)) ≡ drop (r .stored) (now (store .entry)))) ⌝ }
+    ensures { λ r. ⌜ TellsSettled tried model tests stored r (now (store .entry)) (now (store .exit)) ⌝ }
+    ensures { λ r. ⌜ Onward stored r (now (store .entry)) (now (store .exit)) ⌝ }
 {
     match tried {
         Tried::Missed(steps) => Walked {
@@ -126,8 +122,8 @@ fn judge(
 ) -> Walked
     requires { ⌜ Readable (now order) (now objectives) (now plains) (now negated) ⌝ }
     requires { ⌜ (isLiteral 64 question ≡ true) × ((w .tests < w .steps) × ((w .stored ≤ length (now store)) × (w .ending ≡ going))) ⌝ }
-    ensures { λ r. ⌜ ((x : Sheet) → Prepared x (now (order .entry)) (now (objectives .entry)) (now (plains .entry)) (now (negated .entry)) → runOf r (now (store .exit)) ≡ judges (game x (literal question)) allowance (length (now (store .entry))) model (stateOf w (now (store .entry)))) ⌝ }
-    ensures { λ r. ⌜ Onward w r (now (store .entry)) (now (store .exit)) ⌝ }
+    ensures { λ r. ⌜ TellsJudged (now (order .entry)) (now (objectives .entry)) (now (plains .entry)) (now (negated .entry)) question allowance model w r (now (store .entry)) (now (store .exit)) ⌝ }
+    ensures { λ r. ⌜ Onward (w .stored) r (now (store .entry)) (now (store .exit)) ⌝ }
 {
     let part = part_of(objectives, model);
     let stored = w.stored;
@@ -170,9 +166,9 @@ pub fn roam(
     store: &mut [u64],
 ) -> Walked
     requires { ⌜ Readable (now order) (now objectives) (now plains) (now negated) ⌝ }
-    requires { ⌜ (isLiteral 64 question ≡ true) × ((Sound w (now store)) × (w .ending ≡ going)) ⌝ }
-    ensures { λ r. ⌜ ((x : Sheet) (path : List Lit) → Prepared x (now (order .entry)) (now (objectives .entry)) (now (plains .entry)) (now (negated .entry)) → ban ≡ setsOf (map complementOf (literal question ∷ [])) → node ≡ setsOf path → Placed path → runOf r (now (store .exit)) ≡ walk (visitCandidate allowance) (judges (game x (literal question)) allowance (length (now (store .entry)))) (grow (candidateClauses x (literal question)) (map literal (drop depth (now (order .entry)))) path) (stateOf w (now (store .entry)))) ⌝ }
-    ensures { λ r. ⌜ Onward w r (now (store .entry)) (now (store .exit)) ⌝ }
+    requires { ⌜ (isLiteral 64 question ≡ true) × ((InBounds w (now store)) × (w .ending ≡ going)) ⌝ }
+    ensures { λ r. ⌜ TellsRoamed (now (order .entry)) (now (objectives .entry)) (now (plains .entry)) (now (negated .entry)) depth question allowance ban node w r (now (store .entry)) (now (store .exit)) ⌝ }
+    ensures { λ r. ⌜ Onward (w .stored) r (now (store .entry)) (now (store .exit)) ⌝ }
 {
     if allowance <= w.steps {
         return Walked {
@@ -251,8 +247,8 @@ pub fn walk_all(
 ) -> Walked
     requires { ⌜ Readable (now order) (now objectives) (now plains) (now negated) ⌝ }
     requires { ⌜ isLiteral 64 question ≡ true ⌝ }
-    ensures { λ r. ⌜ ((x : Sheet) → Prepared x (now (order .entry)) (now (objectives .entry)) (now (plains .entry)) (now (negated .entry)) → runOf r (now (store .exit)) ≡ search (game x (literal question)) allowance (length (now (store .entry)))) ⌝ }
-    ensures { λ r. ⌜ (Sound r (now (store .exit))) × (drop (r .stored) (now (store .exit)) ≡ drop (r .stored) (now (store .entry))) ⌝ }
+    ensures { λ r. ⌜ TellsSearched (now (order .entry)) (now (objectives .entry)) (now (plains .entry)) (now (negated .entry)) question allowance r (now (store .entry)) (now (store .exit)) ⌝ }
+    ensures { λ r. ⌜ Onward 0 r (now (store .entry)) (now (store .exit)) ⌝ }
 {
     let root = Literals {
         plains: 0,

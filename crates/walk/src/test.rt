@@ -1,18 +1,18 @@
 // The test of a candidate: a walk of its own from the root.
 ghost use mathlib.Core.Path.{_≡_};
 ghost use mathlib.Core.Bool.{true};
-ghost use mathlib.Core.List.{List, map};
-ghost use Prim.Native.Nat.{ℕ, _≤_};
-ghost use lib.ListN.{length, drop};
+ghost use mathlib.Core.List.{map};
+ghost use Prim.Native.Nat.{_≤_};
+ghost use lib.ListN.{length};
 ghost use Rattle.words.specs.Lists.{all};
-ghost use Rattle.sheet.specs.Literals.{Lit, literal, isLiteral, complement as complementOf};
-ghost use Rattle.walk.specs.Carried.{Placed, Clauses, Readable, meetPart, testBelow, told, stepsOf};
-ghost use Rattle.prepare.specs.Carried.{setsOf};
+ghost use Rattle.sheet.specs.Literals.{literal, isLiteral};
+ghost use Rattle.prepare.specs.Carried.{Readable};
+ghost use Rattle.walk.specs.Carried.{meetPart, told, stepsOf, TellsTest};
 use crate::node::closed;
-use crate::node::complement;
 use crate::node::part_of;
-use sheet::clauses::Literals;
-use sheet::clauses::with_literal;
+use prepare::clauses::Literals;
+use prepare::clauses::with_literal;
+use sheet::literal::complement;
 
 // How a test ended, with the steps so far: it found no full node, or one with this part, or the steps were spent.
 pub enum Tried {
@@ -47,7 +47,7 @@ pub fn seek(
     steps: u64,
 ) -> Tried
     requires { ⌜ Readable (now order) (now objectives) (now plains) (now negated) ⌝ }
-    ensures { λ r. ⌜ ((cs : List (List Lit)) (us w : List Lit) → Clauses cs (now (plains .entry)) (now (negated .entry)) → ban ≡ setsOf (map complementOf us) → Placed us → node ≡ setsOf w → Placed w → told r ≡ testBelow cs us (map literal (now (objectives .entry))) (map literal (drop depth (now (order .entry)))) w candidate allowance steps) ⌝ }
+    ensures { λ r. ⌜ TellsTest (now (order .entry)) (now (objectives .entry)) (now (plains .entry)) (now (negated .entry)) depth ban node candidate allowance steps r ⌝ }
     ensures { λ r. ⌜ steps ≤ stepsOf r ⌝ }
 {
     if allowance <= steps {

@@ -8,19 +8,19 @@ use lib.ListN.{length, drop}
 use borrow.Author.Needs.{needs}
 use borrow.Fn.Kinds.{In}
 use borrow.Fn.PlainCycle.{Measures, is, falls, and}
-use Rattle.prepare.specs.Carried.{setsOf}
-use Rattle.search.specs.Grown.{candidateClauses, game, isClosed, grow}
+use Rattle.prepare.specs.Carried.{setsOf, Placed, Prepared}
+use Rattle.search.specs.Grown.{candidateClauses, falsified, grow, posed}
 use Rattle.search.specs.Search.{State, Answer, withSteps, judge, visitCandidate}
 use Rattle.search.specs.Tree.{Run, on, off, walk}
-use Rattle.sheet.proofs.clauses.with_literal.Reads as with-literal-reads
+use Rattle.prepare.proofs.clauses.with_literal.Reads as with-literal-reads
 use Rattle.sheet.specs.Layout.{byte}
 use Rattle.sheet.specs.Literals.{Lit, atom, literal, isLiteral, complement}
 use Rattle.sheet.specs.Reading.{Sheet}
-use Rattle.sheet.specs.declared.clauses.Literals.{Literals}
-use Rattle.walk.proofs.Bytes.{in-atoms, complement-placed}
+use Rattle.prepare.specs.declared.clauses.Literals.{Literals}
+use Rattle.sheet.proofs.LiteralBytes.{in-atoms, complement-placed}
 use Rattle.walk.proofs.Exits.{candidate-due, candidate-refused, out-refused, out-closed, out-full, out-first, out-second, order-next, order-end}
-use Rattle.walk.proofs.Judging.{onward-from, onward-trans}
-use Rattle.walk.proofs.Sets.{sets-snoc, placed-snoc}
+use Rattle.walk.proofs.Judging.{onward-trans}
+use Rattle.walk.proofs.Sets.{stand-child}
 use Rattle.walk.proofs.candidates.+roam.Lts-roam as roam-lts
 use Rattle.walk.proofs.candidates.+roam.Tie.{close}
 use Rattle.walk.proofs.candidates.+roam.{statement}
@@ -28,8 +28,8 @@ use Rattle.walk.proofs.candidates.judge.Reads as judge-reads
 use Rattle.walk.proofs.candidates.roam.Kinds as roam-kinds
 use Rattle.walk.proofs.candidates.roam.Reads as roam
 use Rattle.walk.proofs.node.closed.Reads as closed-reads
-use Rattle.walk.proofs.node.complement.Reads as complement-reads
-use Rattle.walk.specs.Carried.{Placed, Prepared, stateOf, endedAs, runOf}
+use Rattle.sheet.proofs.literal.complement.Reads as complement-reads
+use Rattle.walk.specs.Carried.{Stand, stateOf, endedAs, runOf}
 use Rattle.walk.specs.declared.candidates.Ending.{Ending}
 use Rattle.words.proofs.Members.{all-out, mem-at}
 
@@ -53,10 +53,6 @@ lit t c =
     let s = c .before .before .before .before .before .before .before .before .before .before .before .before in
     all-out (isLiteral 64) (s .args .order .now) (s .pre .1 .0 .order) _ (mem-at 0 (s .args .order .now) (s .args .depth) (c .before .if3 .left))
 
--- the question has a place
-asked : (t : ℕ) (s : roam-lts.Start (calls t) (roam-at t) roam.Post) → Placed (literal (s .args .question) ∷ [])
-asked t s l h = subst (λ (x : Lit). (1 ≤ atom x) × (atom x ≤ 64)) (sym (eq-of-singleton h)) (in-atoms (s .args .question) (s .pre .1 .1 .0))
-
 -- what is known once the first child has been walked, of the sheet x and the node w that the words stand for
 module _ (t : ℕ) (c : roam-lts.After-roam (calls t) (roam-at t) roam.Post) (x : Sheet) (w : List Lit) where
   abbrev entry : roam-lts.Start (calls t) (roam-at t) roam.Post
@@ -69,7 +65,7 @@ module _ (t : ℕ) (c : roam-lts.After-roam (calls t) (roam-at t) roam.Post) (x 
   branched = literal (byte (entry .args .order .now) (entry .args .depth))
 
   abbrev acts : ℕ → State → Run State Answer
-  acts = judge (game x q) (entry .args .allowance) (length (entry .args .store .now))
+  acts = judge (posed x q) (entry .args .allowance) (length (entry .args .store .now))
 
   abbrev began : State
   began = stateOf (entry .args .w) (entry .args .store .now)
@@ -78,44 +74,44 @@ module _ (t : ℕ) (c : roam-lts.After-roam (calls t) (roam-at t) roam.Post) (x 
   left = map literal (drop (entry .args .depth + 1) (entry .args .order .now))
 
   abbrev below : Lit → State → Run State Answer
-  below l = walk (visitCandidate (entry .args .allowance)) acts (grow (candidateClauses x q) left (w ++ (l ∷ [])))
+  below l = walk (visitCandidate (entry .args .allowance)) acts (grow (falsified (candidateClauses x q)) left (w ++ (l ∷ [])))
 
   abbrev here : Run State Answer
-  here = walk (visitCandidate (entry .args .allowance)) acts (grow (candidateClauses x q) (map literal (drop (entry .args .depth) (entry .args .order .now))) w) began
+  here = walk (visitCandidate (entry .args .allowance)) acts (grow (falsified (candidateClauses x q)) (map literal (drop (entry .args .depth) (entry .args .order .now))) w) began
 
   abbrev firstRun : Run State Answer
   firstRun = runOf (c .roam .result) (c .roam .last .1 .1 .1 .1 .1 .1 .1 .1 .1 .1 .0)
 
   module _ (is : Prepared x (entry .args .order .now) (entry .args .objectives .now) (entry .args .plains .now) (entry .args .negated .now))
-      (eb : entry .args .ban ≡ setsOf (map complement (q ∷ []))) (en : entry .args .node ≡ setsOf w) (pw : Placed w) where
+      (st : Stand (x .clauses) (q ∷ []) w (entry .args .plains .now) (entry .args .negated .now) (entry .args .ban) (entry .args .node)) where
     is-literal : isLiteral 64 (byte (entry .args .order .now) (entry .args .depth)) ≡ true
     is-literal = lit t (c .before .before .before)
 
     first-walked : firstRun ≡ below branched (withSteps began (began .steps + 1))
     first-walked =
-        c .roam .ensures .0 x (w ++ (branched ∷ [])) is eb (c .before .before .with-literal .ensures w en ∙ sets-snoc w branched) (placed-snoc w branched pw (in-atoms _ is-literal))
+        c .roam .ensures .0 x (w ++ (branched ∷ [])) is (stand-child st branched (in-atoms _ is-literal) (c .before .before .with-literal .ensures w (st .made)))
 
-    is-open : isClosed (candidateClauses x q) w ≡ false
-    is-open = sym (c .before .before .before .before .before .before .closed .ensures (x .clauses) (q ∷ []) w (is .clauses) eb (asked t entry) en pw) ∙ c .before .before .before .before .before .if2 .left
+    is-open : falsified (candidateClauses x q) w ≡ false
+    is-open = sym (c .before .before .before .before .before .before .closed .ensures (x .clauses) (q ∷ []) w st) ∙ c .before .before .before .before .before .if2 .left
 
-    order-left : here ≡ walk (visitCandidate (entry .args .allowance)) acts (grow (candidateClauses x q) (branched ∷ left) w) began
+    order-left : here ≡ walk (visitCandidate (entry .args .allowance)) acts (grow (falsified (candidateClauses x q)) (branched ∷ left) w) began
     order-left =
-        ap (λ (ls : List Lit). walk (visitCandidate (entry .args .allowance)) acts (grow (candidateClauses x q) ls w) began) (order-next (entry .args .order .now) (entry .args .depth) (c .before .before .before .before .if3 .left))
+        ap (λ (ls : List Lit). walk (visitCandidate (entry .args .allowance)) acts (grow (falsified (candidateClauses x q)) ls w) began) (order-next (entry .args .order .now) (entry .args .depth) (c .before .before .before .before .if3 .left))
 
     due : visitCandidate (entry .args .allowance) began ≡ on (withSteps began (began .steps + 1))
     due = candidate-due (entry .args .allowance) began (c .before .before .before .before .before .before .before .before .if1 .left)
 
     ended : {u : State} {a : Answer} → firstRun ≡ off u a → firstRun ≡ here
-    ended e = e ∙ sym (order-left ∙ out-first (visitCandidate _) acts (candidateClauses x q) w due branched left is-open first-walked e)
+    ended e = e ∙ sym (order-left ∙ out-first (visitCandidate _) acts (falsified (candidateClauses x q)) w due branched left is-open first-walked e)
 
     goes-on : {u : State} → firstRun ≡ on u → here ≡ below (complement branched) u
-    goes-on e = order-left ∙ out-second (visitCandidate _) acts (candidateClauses x q) w due branched left is-open first-walked e
+    goes-on e = order-left ∙ out-second (visitCandidate _) acts (falsified (candidateClauses x q)) w due branched left is-open first-walked e
 
 roam-returns : (t : ℕ) → roam-lts.Need-returns (calls t) (roam-at t) roam.Post
 roam-returns t c =
     let s = c .before .before .before .before .before .before .before in (
-      λ x w is eb en pw. sym (out-refused (visitCandidate _) (judge (game x (literal (s .args .question))) _ _) (grow _ _ w) (candidate-refused (s .args .allowance) (stateOf (s .args .w) (s .args .store .now)) (c .if1 .taken))),
-      record { sound = record { fewer = s .pre .1 .1 .1 .0 .fewer; room = s .pre .1 .1 .1 .0 .room }; grown = omega arith; rest = refl },
+      λ x w is st. sym (out-refused (visitCandidate _) (judge (posed x (literal (s .args .question))) _ _) (grow _ _ w) (candidate-refused (s .args .allowance) (stateOf (s .args .w) (s .args .store .now)) (c .if1 .taken))),
+      record { bounded = record { fewer = s .pre .1 .1 .1 .0 .fewer; room = s .pre .1 .1 .1 .0 .room }; grown = omega arith; rest = refl },
     )
 
 roam-add-t18 : (t : ℕ) → roam-lts.Need-add-t18 (calls t) (roam-at t) roam.Post
@@ -128,10 +124,10 @@ roam-returns-2 : (t : ℕ) → roam-lts.Need-returns-2 (calls t) (roam-at t) roa
 roam-returns-2 t c =
     let u = c .before in
     let s = u .before .before .before .before .before .before .before .before .before in (
-      λ x w is eb en pw. sym (out-closed (visitCandidate _) (judge (game x (literal (s .args .question))) _ _) (candidateClauses x (literal (s .args .question))) w
+      λ x w is st. sym (out-closed (visitCandidate _) (judge (posed x (literal (s .args .question))) _ _) (falsified (candidateClauses x (literal (s .args .question)))) w
           (candidate-due (s .args .allowance) (stateOf (s .args .w) (s .args .store .now)) (u .before .before .if1 .left)) _
-          (sym (u .closed .ensures (x .clauses) (literal (s .args .question) ∷ []) w (is .clauses) eb (asked t s) en pw) ∙ c .if2 .taken)),
-      record { sound = record { fewer = omega (arith, s .pre .1 .1 .1 .0 .fewer); room = s .pre .1 .1 .1 .0 .room }; grown = omega arith; rest = refl },
+          (sym (u .closed .ensures (x .clauses) (literal (s .args .question) ∷ []) w st) ∙ c .if2 .taken)),
+      record { bounded = record { fewer = omega (arith, s .pre .1 .1 .1 .0 .fewer); room = s .pre .1 .1 .1 .0 .room }; grown = omega arith; rest = refl },
     )
 
 roam-judge-requires : (t : ℕ) → roam-lts.Need-judge-requires (calls t) (roam-at t) roam.Post
@@ -148,13 +144,13 @@ roam-returns-3 t c =
     let v = c .before .before .before .before .before .before in
     let s = v .before .before .before .before .before .before .before .before .before in
     let a = s .args in (
-      λ x w is eb en pw. let acts = judge (game x (literal (a .question))) (a .allowance) (length (a .store .now)) in
+      λ x w is st. let acts = judge (posed x (literal (a .question))) (a .allowance) (length (a .store .now)) in
           let began = stateOf (a .w) (a .store .now) in
-          r .ensures .0 x is ∙ ap (λ (n : Literals). acts (n .plains) (withSteps began (began .steps + 1))) en
-          ∙ sym (ap (λ (ls : List Lit). walk (visitCandidate (a .allowance)) acts (grow (candidateClauses x (literal (a .question))) ls w) began) (order-end (a .order .now) (a .depth) (c .before .before .before .before .if3 .taken))
-          ∙ out-full (visitCandidate _) acts (candidateClauses x (literal (a .question))) w (candidate-due (a .allowance) began (v .before .before .if1 .left))
-          (sym (v .closed .ensures (x .clauses) (literal (a .question) ∷ []) w (is .clauses) eb (asked t s) en pw) ∙ c .before .before .before .before .before .if2 .left)),
-      onward-from refl (r .ensures .1),
+          r .ensures .0 x is ∙ ap (λ (n : Literals). acts (n .plains) (withSteps began (began .steps + 1))) (st .made)
+          ∙ sym (ap (λ (ls : List Lit). walk (visitCandidate (a .allowance)) acts (grow (falsified (candidateClauses x (literal (a .question)))) ls w) began) (order-end (a .order .now) (a .depth) (c .before .before .before .before .if3 .taken))
+          ∙ out-full (visitCandidate _) acts (falsified (candidateClauses x (literal (a .question)))) w (candidate-due (a .allowance) began (v .before .before .if1 .left))
+          (sym (v .closed .ensures (x .clauses) (literal (a .question) ∷ []) w st) ∙ c .before .before .before .before .before .if2 .left)),
+      r .ensures .1,
     )
 
 roam-shared-slice-read-l : (t : ℕ) → roam-lts.Need-shared-slice-read-l (calls t) (roam-at t) roam.Post
@@ -186,7 +182,7 @@ roam-with-literal-requires-2 t c κs = c .complement .ensures .0
 roam-roam-requires-2 : (t : ℕ) → roam-lts.Need-roam-requires-2 (calls t) (roam-at t) roam.Post
 roam-roam-requires-2 t c κs =
     let s = c .before .before .before .before .before .before .before .before .before .before .before .before .before .before .before .before .before .before .before .before .before .before in
-    (omega (arith, c .before .before .before .before .before .before .before .before .before .before .before .if3 .left, s .pre .0), (s .pre .1 .0, (s .pre .1 .1 .0, (c .before .before .before .before .before .before .before .roam .ensures .1 .sound, c .before .before .before .enum-told .given .1))))
+    (omega (arith, c .before .before .before .before .before .before .before .before .before .before .before .if3 .left, s .pre .0), (s .pre .1 .0, (s .pre .1 .1 .0, (c .before .before .before .before .before .before .before .roam .ensures .1 .bounded, c .before .before .before .enum-told .given .1))))
 
 roam-enum-told-2 : (t : ℕ) → roam-lts.Need-enum-told-2 (calls t) (roam-at t) roam.Post
 roam-enum-told-2 t c = search needs
@@ -205,14 +201,13 @@ roam-returns-4 t c =
     let u = c .before .before .before .before .before .before .before .before .before .before in
     let s = u .before .before .before .before .before .before .before .before .before .before .before .before .before .before .before in
     let r = c .before .before .roam2 in (
-      λ x w is eb en pw. let l = branched t u x w in
+      λ x w is st. let l = branched t u x w in
           let after = stateOf (u .roam .result) (u .roam .last .1 .1 .1 .1 .1 .1 .1 .1 .1 .1 .0) in
-          r .ensures .0 x (w ++ (complement l ∷ [])) is eb
-          (c .before .before .before .before .with-literal2 .ensures w en ∙ ap (λ (y : Lit). setsOf (y ∷ w)) (c .before .before .before .before .before .complement .ensures .1) ∙ sets-snoc w (complement l))
-          (placed-snoc w (complement l) pw (complement-placed l (in-atoms _ (is-literal t u x w is eb en pw))))
-          ∙ ap (λ (k : ℕ). walk (visitCandidate (s .args .allowance)) (judge (game x (literal (s .args .question))) (s .args .allowance) k) (grow (candidateClauses x (literal (s .args .question))) (left t u x w) (w ++ (complement l ∷ []))) after) (u .roam .kept .1 .1 .1 .1 .1 .1 .1 .1 .1 .1 .0)
-          ∙ sym (goes-on t u x w is eb en pw (ap (λ (e : Ending). endedAs e after) (c .before .before .before .before .before .before .enum-told .given .1))),
-      onward-trans (onward-from refl (u .roam .ensures .1)) (r .ensures .1),
+          r .ensures .0 x (w ++ (complement l ∷ [])) is
+          (stand-child st (complement l) (complement-placed l (in-atoms _ (is-literal t u x w is st))) (c .before .before .before .before .with-literal2 .ensures w (st .made) ∙ ap (λ (y : Lit). setsOf (y ∷ w)) (c .before .before .before .before .before .complement .ensures .1)))
+          ∙ ap (λ (k : ℕ). walk (visitCandidate (s .args .allowance)) (judge (posed x (literal (s .args .question))) (s .args .allowance) k) (grow (falsified (candidateClauses x (literal (s .args .question)))) (left t u x w) (w ++ (complement l ∷ []))) after) (u .roam .kept .1 .1 .1 .1 .1 .1 .1 .1 .1 .1 .0)
+          ∙ sym (goes-on t u x w is st (ap (λ (e : Ending). endedAs e after) (c .before .before .before .before .before .before .enum-told .given .1))),
+      onward-trans (u .roam .ensures .1) (r .ensures .1),
     )
 
 roam-same-length-3 : (t : ℕ) → roam-lts.Need-same-length-3 (calls t) (roam-at t) roam.Post
@@ -221,8 +216,8 @@ roam-same-length-3 t c = c .before .before .before .before .roam .kept .1 .1 .1 
 roam-returns-5 : (t : ℕ) → roam-lts.Need-returns-5 (calls t) (roam-at t) roam.Post
 roam-returns-5 t c =
     let u = c .before .before .before .before in (
-      λ x w is eb en pw. ended t u x w is eb en pw (ap (λ (e : Ending). endedAs e (stateOf (u .roam .result) (u .roam .last .1 .1 .1 .1 .1 .1 .1 .1 .1 .1 .0))) (c .enum-told2 .given .1)),
-      onward-from refl (u .roam .ensures .1),
+      λ x w is st. ended t u x w is st (ap (λ (e : Ending). endedAs e (stateOf (u .roam .result) (u .roam .last .1 .1 .1 .1 .1 .1 .1 .1 .1 .1 .0))) (c .enum-told2 .given .1)),
+      u .roam .ensures .1,
     )
 
 roam-same-length-4 : (t : ℕ) → roam-lts.Need-same-length-4 (calls t) (roam-at t) roam.Post
@@ -231,8 +226,8 @@ roam-same-length-4 t c = c .before .before .before .before .roam .kept .1 .1 .1 
 roam-returns-6 : (t : ℕ) → roam-lts.Need-returns-6 (calls t) (roam-at t) roam.Post
 roam-returns-6 t c =
     let u = c .before .before .before .before in (
-      λ x w is eb en pw. ended t u x w is eb en pw (ap (λ (e : Ending). endedAs e (stateOf (u .roam .result) (u .roam .last .1 .1 .1 .1 .1 .1 .1 .1 .1 .1 .0))) (c .enum-told3 .given .1)),
-      onward-from refl (u .roam .ensures .1),
+      λ x w is st. ended t u x w is st (ap (λ (e : Ending). endedAs e (stateOf (u .roam .result) (u .roam .last .1 .1 .1 .1 .1 .1 .1 .1 .1 .1 .0))) (c .enum-told3 .given .1)),
+      u .roam .ensures .1,
     )
 
 roam-same-length-5 : (t : ℕ) → roam-lts.Need-same-length-5 (calls t) (roam-at t) roam.Post
@@ -241,8 +236,8 @@ roam-same-length-5 t c = c .before .before .before .before .roam .kept .1 .1 .1 
 roam-returns-7 : (t : ℕ) → roam-lts.Need-returns-7 (calls t) (roam-at t) roam.Post
 roam-returns-7 t c =
     let u = c .before .before .before .before in (
-      λ x w is eb en pw. ended t u x w is eb en pw (ap (λ (e : Ending). endedAs e (stateOf (u .roam .result) (u .roam .last .1 .1 .1 .1 .1 .1 .1 .1 .1 .1 .0))) (c .enum-told4 .given .1)),
-      onward-from refl (u .roam .ensures .1),
+      λ x w is st. ended t u x w is st (ap (λ (e : Ending). endedAs e (stateOf (u .roam .result) (u .roam .last .1 .1 .1 .1 .1 .1 .1 .1 .1 .1 .0))) (c .enum-told4 .given .1)),
+      u .roam .ensures .1,
     )
 
 pub +roam-spec : {M : Type 1} → statement M

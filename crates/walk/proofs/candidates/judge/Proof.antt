@@ -5,7 +5,7 @@ use native.Mathlib.Omega.{arith}
 use lib.ListN.{length}
 use lib.Seq.{length-take-le}
 use borrow.Author.Needs.{needs}
-use Rattle.prepare.specs.Carried.{negated}
+use Rattle.prepare.specs.Carried.{negated, Prepared}
 use Rattle.search.specs.Models.{holds, part}
 use Rattle.search.specs.Search.{settle, withTest}
 use Rattle.sheet.specs.Literals.{literal, complement, plains}
@@ -13,7 +13,7 @@ use Rattle.sheet.specs.Reading.{Sheet}
 use Rattle.walk.proofs.Judging.{root-is, judge-passed, judge-tests, conditions-placed}
 use Rattle.walk.proofs.candidates.judge.Statement.{statement}
 use Rattle.walk.proofs.candidates.judge.Tie as tie
-use Rattle.walk.specs.Carried.{Prepared, testBelow, stateOf, endedAs}
+use Rattle.walk.specs.Carried.{testBelow, stateOf, endedAs}
 use Rattle.walk.specs.declared.candidates.Ending.{Ending}
 use Rattle.words.specs.Lists.{pick}
 
@@ -43,7 +43,7 @@ returns c =
     let a = s .args in (
       λ x is. ap (λ (e : Ending). endedAs e (stateOf (a .w) (a .store .now))) (s .pre .1 .1 .1 .1)
           ∙ sym (judge-passed x (literal (a .question)) (a .allowance) (length (a .store .now)) (a .model) (stateOf (a .w) (a .store .now)) (its-part (c .before .before .before) x is) (sym (c .before .passed-over .ensures) ∙ c .if1 .taken)),
-      record { sound = record { fewer = omega (arith, s .pre .1 .1 .0); room = s .pre .1 .1 .1 .0 }; grown = omega arith; rest = refl },
+      record { bounded = record { fewer = omega (arith, s .pre .1 .1 .0); room = s .pre .1 .1 .1 .0 }; grown = omega arith; rest = refl },
     )
 
 ban-of-requires : tie.Need-ban-of-requires
@@ -67,15 +67,21 @@ returns-2 c =
     let u = c .before .before .before .before in
     let v = u .before .before in
     let s = v .before .before .before .before .before .before .before .before .before .before in
-    let a = s .args in
-    let o = r .ensures .1 in (
+    let a = s .args in (
       λ x is. let us = complement (literal (a .question)) ∷ pick (holds (a .model)) (map literal (a .objectives .now)) in
           r .ensures .0 (withTest (stateOf (a .w) (a .store .now))) refl refl
           ∙ ap (settle (length (a .store .now)) (a .model) (withTest (stateOf (a .w) (a .store .now))))
-          (u .seek .ensures .0 (x .clauses) us [] (is .clauses) (v .ban-of .ensures) (conditions-placed (a .objectives .now) (a .model) (a .question) (s .pre .0 .objectives) (s .pre .1 .0)) root-is (λ l h. absurd (not-nil h))
+          (u .seek .ensures .0 (x .clauses) us []
+          (record {
+            clauses = is .clauses;
+            banned = v .ban-of .ensures;
+            conditions = conditions-placed (a .objectives .now) (a .model) (a .question) (s .pre .0 .objectives) (s .pre .1 .0);
+            made = root-is;
+            decided = λ l h. absurd (not-nil h);
+          })
           ∙ (λ i. testBelow (x .clauses) (complement (literal (a .question)) ∷ pick (holds (a .model)) (is .objectives i)) (is .objectives i) (is .order i) [] (its-part (v .before .before .before .before) x is i) (a .allowance) (a .w .steps)))
           ∙ sym (judge-tests x (literal (a .question)) (a .allowance) (length (a .store .now)) (a .model) (stateOf (a .w) (a .store .now)) (its-part (v .before .before .before .before) x is) (sym (v .before .before .passed-over .ensures) ∙ v .before .if1 .left)),
-      record { sound = o .0; grown = o .1 .0; rest = o .1 .1 },
+      r .ensures .1,
     )
 
 pub judge-spec : {M : Type 1} → statement M

@@ -36,13 +36,14 @@ returns c =
     let a = s .args in
     let is = c .before .before .tried2 .given in (
       λ x et es. settle-stored (a .model) (is .0 .0) (a .stored) (a .store .now) x et es (is .0 .1 .0) (c .if1 .taken) ∙ ap (λ (r : Tried). settle (length (a .store .now)) (a .model) x (told r)) (sym (is .1)),
-      (
-        record {
+      record {
+        bounded = record {
           fewer = omega (arith, s .pre .0, ap stepsOf (is .1));
           room = omega (arith, c .if1 .taken, length-set (a .store .now) (a .stored) (is .0 .1 .0));
-        },
-        (omega arith, drop-set-lt (a .stored + 1) (a .store .now) (a .stored) (is .0 .1 .0) (omega arith)),
-      ),
+        };
+        grown = omega arith;
+        rest = drop-set-lt (a .stored + 1) (a .store .now) (a .stored) (is .0 .1 .0) (omega arith);
+      },
     )
 
 enum-known-tried-3 : tie.Need-enum-known-tried-3
@@ -54,7 +55,7 @@ returns-2 c =
     let a = s .args in
     let is = c .before .tried .given in (
       λ x et es. settle-missed (a .model) (is .0 .0) (a .stored) (a .store .now) x et es ∙ ap (λ (r : Tried). settle (length (a .store .now)) (a .model) x (told r)) (sym (is .1)),
-      (record { fewer = omega (arith, s .pre .0, ap stepsOf (is .1)); room = s .pre .1 }, (omega arith, refl)),
+      record { bounded = record { fewer = omega (arith, s .pre .0, ap stepsOf (is .1)); room = s .pre .1 }; grown = omega arith; rest = refl },
     )
 
 returns-3 : tie.Need-returns-3
@@ -63,7 +64,7 @@ returns-3 c =
     let a = s .args in
     let is = c .before .before .tried2 .given in (
       λ x et es. settle-full (a .model) (is .0 .0) (a .stored) (a .store .now) x et es (is .0 .1 .0) (c .if1 .left) (s .pre .1) ∙ ap (λ (r : Tried). settle (length (a .store .now)) (a .model) x (told r)) (sym (is .1)),
-      (record { fewer = omega (arith, s .pre .0, ap stepsOf (is .1)); room = s .pre .1 }, (omega arith, refl)),
+      record { bounded = record { fewer = omega (arith, s .pre .0, ap stepsOf (is .1)); room = s .pre .1 }; grown = omega arith; rest = refl },
     )
 
 returns-4 : tie.Need-returns-4
@@ -72,7 +73,7 @@ returns-4 c =
     let a = s .args in
     let is = c .before .tried3 .given in (
       λ x et es. settle-spent (a .model) (is .0 .0) (a .stored) (a .store .now) x et es ∙ ap (λ (r : Tried). settle (length (a .store .now)) (a .model) x (told r)) (sym (is .1)),
-      (record { fewer = omega (arith, s .pre .0, ap stepsOf (is .1)); room = s .pre .1 }, (omega arith, refl)),
+      record { bounded = record { fewer = omega (arith, s .pre .0, ap stepsOf (is .1)); room = s .pre .1 }; grown = omega arith; rest = refl },
     )
 
 pub settle-spec : {M : Type 1} → statement M

@@ -4,13 +4,13 @@ use mathlib.Core.Path.{ap, _∙_}
 use lib.ListN.{length}
 use borrow.Author.Needs.{needs}
 use Rattle.prepare.specs.Carried.{setsOf}
-use Rattle.search.specs.Grown.{candidateClauses, game, grow}
-use Rattle.search.specs.Search.{start, visitCandidate, judge, search as searched}
-use Rattle.search.specs.Tree.{walk}
+use Rattle.search.specs.Grown.{game}
+use Rattle.search.specs.Search.{start, search as searched}
 use Rattle.sheet.specs.Literals.{Lit, literal}
-use Rattle.walk.proofs.Judging.{root-is}
+use Rattle.walk.proofs.Judging.{root-is, question-placed}
 use Rattle.walk.proofs.candidates.walk_all.Statement.{statement}
 use Rattle.walk.proofs.candidates.walk_all.Tie as tie
+use Rattle.walk.specs.Carried.{candidatesBelow}
 
 complement-requires : tie.Need-complement-requires
 complement-requires c κs = search needs
@@ -31,9 +31,17 @@ returns c =
     let s = c .before .before .before .before .before .before .before .before .before .before .before in
     let a = s .args in
     let q = literal (a .question) in (
-      λ x is. r .ensures .0 x [] is (c .before .before .before .before .with-literal .ensures [] root-is ∙ ap (λ (l : Lit). setsOf (l ∷ [])) (c .before .before .before .before .before .complement .ensures .1)) root-is (λ l h. absurd (not-nil h))
-          ∙ ap (λ (ls : List Lit). walk (visitCandidate (a .allowance)) (judge (game x q) (a .allowance) (length (a .store .now))) (grow (candidateClauses x q) ls []) start) (is .order),
-      (r .ensures .1 .sound, r .ensures .1 .rest),
+      λ x is.
+          r .ensures .0 x [] is
+          (record {
+            clauses = is .clauses;
+            banned = c .before .before .before .before .with-literal .ensures [] root-is ∙ ap (λ (l : Lit). setsOf (l ∷ [])) (c .before .before .before .before .before .complement .ensures .1);
+            conditions = question-placed (a .question) (s .pre .1);
+            made = root-is;
+            decided = λ l h. absurd (not-nil h);
+          })
+          ∙ ap (λ (ls : List Lit). candidatesBelow x q (a .allowance) (length (a .store .now)) ls [] start) (is .order),
+      r .ensures .1,
     )
 
 pub walk-all-spec : {M : Type 1} → statement M

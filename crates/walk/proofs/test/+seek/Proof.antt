@@ -8,26 +8,26 @@ use lib.ListN.{length, drop}
 use borrow.Author.Needs.{needs}
 use borrow.Fn.Kinds.{In}
 use borrow.Fn.PlainCycle.{Measures, is, falls, and}
-use Rattle.prepare.specs.Carried.{setsOf}
-use Rattle.search.specs.Grown.{unit, isClosed, grow}
+use Rattle.prepare.specs.Carried.{setsOf, Placed, Clauses}
+use Rattle.search.specs.Grown.{unit, falsified, grow}
 use Rattle.search.specs.Search.{Stop, spent, visit}
 use Rattle.search.specs.Tree.{Run, on, off}
-use Rattle.sheet.proofs.clauses.with_literal.Reads as with-literal-reads
+use Rattle.prepare.proofs.clauses.with_literal.Reads as with-literal-reads
 use Rattle.sheet.specs.Layout.{byte}
 use Rattle.sheet.specs.Literals.{Lit, literal, isLiteral, complement}
-use Rattle.sheet.specs.declared.clauses.Literals.{Literals}
-use Rattle.walk.proofs.Bytes.{in-atoms, complement-placed}
+use Rattle.prepare.specs.declared.clauses.Literals.{Literals}
+use Rattle.sheet.proofs.LiteralBytes.{in-atoms, complement-placed}
 use Rattle.walk.proofs.Exits.{visit-due, visit-refused, out-refused, out-closed, out-full, out-first, out-second, order-next, order-end}
-use Rattle.walk.proofs.Sets.{sets-snoc, placed-snoc}
+use Rattle.walk.proofs.Sets.{stand-child}
 use Rattle.walk.proofs.node.closed.Reads as closed-reads
-use Rattle.walk.proofs.node.complement.Reads as complement-reads
+use Rattle.sheet.proofs.literal.complement.Reads as complement-reads
 use Rattle.walk.proofs.test.+seek.Lts-seek as seek-lts
 use Rattle.walk.proofs.test.+seek.Tie.{close}
 use Rattle.walk.proofs.test.+seek.{statement}
 use Rattle.walk.proofs.test.meet.Reads as meet-reads
 use Rattle.walk.proofs.test.seek.Kinds as seek-kinds
 use Rattle.walk.proofs.test.seek.Reads as seek
-use Rattle.walk.specs.Carried.{Placed, Clauses, meetPart, testBelow, told, stepsOf}
+use Rattle.walk.specs.Carried.{Stand, meetPart, testBelow, told, stepsOf}
 use Rattle.words.proofs.Members.{all-out, mem-at}
 
 abbrev μ-seek : Measures 4 seek-kinds.ps ℕ
@@ -64,29 +64,29 @@ module _ (t : ℕ) (c : seek-lts.After-seek (calls t) (seek-at t) seek.Post) (cs
   abbrev here : Run ℕ Stop
   here = testBelow cs us (map literal (entry .args .objectives .now)) (map literal (drop (entry .args .depth) (entry .args .order .now))) w (entry .args .candidate) (entry .args .allowance) (entry .args .steps)
 
-  module _ (are : Clauses cs (entry .args .plains .now) (entry .args .negated .now)) (eb : entry .args .ban ≡ setsOf (map complement us)) (pu : Placed us) (en : entry .args .node ≡ setsOf w) (pw : Placed w) where
+  module _ (st : Stand cs us w (entry .args .plains .now) (entry .args .negated .now) (entry .args .ban) (entry .args .node)) where
     is-literal : isLiteral 64 (byte (entry .args .order .now) (entry .args .depth)) ≡ true
     is-literal = lit t (c .before .before)
 
     first-walked : told (c .seek .result) ≡ below branched (entry .args .steps + 1)
     first-walked =
-        c .seek .ensures .0 cs us (w ++ (branched ∷ [])) are eb pu (c .before .with-literal .ensures w en ∙ sets-snoc w branched) (placed-snoc w branched pw (in-atoms _ is-literal))
+        c .seek .ensures .0 cs us (w ++ (branched ∷ [])) (stand-child st branched (in-atoms _ is-literal) (c .before .with-literal .ensures w (st .made)))
 
-    is-open : isClosed (map unit us ++ cs) w ≡ false
-    is-open = sym (c .before .before .before .before .before .closed .ensures cs us w are eb pu en pw) ∙ c .before .before .before .before .if2 .left
+    is-open : falsified (map unit us ++ cs) w ≡ false
+    is-open = sym (c .before .before .before .before .before .closed .ensures cs us w st) ∙ c .before .before .before .before .if2 .left
 
     order-left : here ≡ testBelow cs us (map literal (entry .args .objectives .now)) (branched ∷ map literal (drop (entry .args .depth + 1) (entry .args .order .now))) w (entry .args .candidate) (entry .args .allowance) (entry .args .steps)
     order-left = ap (λ (ls : List Lit). testBelow cs us (map literal (entry .args .objectives .now)) ls w (entry .args .candidate) (entry .args .allowance) (entry .args .steps)) (order-next (entry .args .order .now) (entry .args .depth) (c .before .before .before .if3 .left))
 
     ended : {n : ℕ} {a : Stop} → told (c .seek .result) ≡ off n a → told (c .seek .result) ≡ here
     ended e =
-        e ∙ sym (order-left ∙ out-first (visit spent _) (meetPart _ _) (map unit us ++ cs) w (visit-due spent _ _ (c .before .before .before .before .before .before .if1 .left)) branched _ is-open first-walked e)
+        e ∙ sym (order-left ∙ out-first (visit spent _) (meetPart _ _) (falsified (map unit us ++ cs)) w (visit-due spent _ _ (c .before .before .before .before .before .before .if1 .left)) branched _ is-open first-walked e)
 
     goes-on : {n : ℕ} → told (c .seek .result) ≡ on n → here ≡ below (complement branched) n
-    goes-on e = order-left ∙ out-second (visit spent _) (meetPart _ _) (map unit us ++ cs) w (visit-due spent _ _ (c .before .before .before .before .before .before .if1 .left)) branched _ is-open first-walked e
+    goes-on e = order-left ∙ out-second (visit spent _) (meetPart _ _) (falsified (map unit us ++ cs)) w (visit-due spent _ _ (c .before .before .before .before .before .before .if1 .left)) branched _ is-open first-walked e
 
 seek-returns : (t : ℕ) → seek-lts.Need-returns (calls t) (seek-at t) seek.Post
-seek-returns t c = (λ cs us w are eb pu en pw. sym (out-refused (visit spent _) (meetPart _ _) (grow (map unit us ++ cs) _ w) (visit-refused spent _ _ (c .if1 .taken))), omega arith)
+seek-returns t c = (λ cs us w st. sym (out-refused (visit spent _) (meetPart _ _) (grow (falsified (map unit us ++ cs)) _ w) (visit-refused spent _ _ (c .if1 .taken))), omega arith)
 
 seek-add-visited : (t : ℕ) → seek-lts.Need-add-visited (calls t) (seek-at t) seek.Post
 seek-add-visited t c = omega arith
@@ -97,7 +97,7 @@ seek-closed-requires t c κs = c .before .before .before .before .before .pre .1
 seek-returns-2 : (t : ℕ) → seek-lts.Need-returns-2 (calls t) (seek-at t) seek.Post
 seek-returns-2 t c =
     let u = c .before in (
-      λ cs us w are eb pu en pw. sym (out-closed (visit spent _) (meetPart _ _) (map unit us ++ cs) w (visit-due spent _ _ (u .before .if1 .left)) _ (sym (u .closed .ensures cs us w are eb pu en pw) ∙ c .if2 .taken)),
+      λ cs us w st. sym (out-closed (visit spent _) (meetPart _ _) (falsified (map unit us ++ cs)) w (visit-due spent _ _ (u .before .if1 .left)) _ (sym (u .closed .ensures cs us w st) ∙ c .if2 .taken)),
       omega arith,
     )
 
@@ -108,9 +108,9 @@ seek-returns-3 : (t : ℕ) → seek-lts.Need-returns-3 (calls t) (seek-at t) see
 seek-returns-3 t c =
     let v = c .before .before .before in
     let s = v .before .before .before .before .before .before in (
-      λ cs us w are eb pu en pw. c .meet .ensures .0 ∙ ap (λ (x : Literals). meetPart (map literal (s .args .objectives .now)) (s .args .candidate) (x .plains) (s .args .steps + 1)) en
+      λ cs us w st. c .meet .ensures .0 ∙ ap (λ (x : Literals). meetPart (map literal (s .args .objectives .now)) (s .args .candidate) (x .plains) (s .args .steps + 1)) (st .made)
           ∙ sym (ap (λ (ls : List Lit). testBelow cs us (map literal (s .args .objectives .now)) ls w (s .args .candidate) (s .args .allowance) (s .args .steps)) (order-end (s .args .order .now) (s .args .depth) (c .before .if3 .taken))
-          ∙ out-full (visit spent _) (meetPart _ _) (map unit us ++ cs) w (visit-due spent _ _ (v .before .if1 .left)) (sym (v .closed .ensures cs us w are eb pu en pw) ∙ c .before .before .if2 .left)),
+          ∙ out-full (visit spent _) (meetPart _ _) (falsified (map unit us ++ cs)) w (visit-due spent _ _ (v .before .if1 .left)) (sym (v .closed .ensures cs us w st) ∙ c .before .before .if2 .left)),
       omega (arith, c .meet .ensures .1),
     )
 
@@ -150,19 +150,18 @@ seek-enum-told-2 t c = search needs
 seek-returns-4 : (t : ℕ) → seek-lts.Need-returns-4 (calls t) (seek-at t) seek.Post
 seek-returns-4 t c =
     let u = c .before .before .before .before .before .before in (
-      λ cs us w are eb pu en pw. let l = branched t u cs us w in
-          c .seek2 .ensures .0 cs us (w ++ (complement l ∷ [])) are eb pu
-          (c .before .with-literal2 .ensures w en ∙ ap (λ (x : Lit). setsOf (x ∷ w)) (c .before .before .complement .ensures .1) ∙ sets-snoc w (complement l))
-          (placed-snoc w (complement l) pw (complement-placed l (in-atoms _ (is-literal t u cs us w are eb pu en pw))))
-          ∙ sym (goes-on t u cs us w are eb pu en pw (ap told (c .before .before .before .before .first .given .1))),
+      λ cs us w st. let l = branched t u cs us w in
+          c .seek2 .ensures .0 cs us (w ++ (complement l ∷ []))
+          (stand-child st (complement l) (complement-placed l (in-atoms _ (is-literal t u cs us w st))) (c .before .with-literal2 .ensures w (st .made) ∙ ap (λ (x : Lit). setsOf (x ∷ w)) (c .before .before .complement .ensures .1)))
+          ∙ sym (goes-on t u cs us w st (ap told (c .before .before .before .before .first .given .1))),
       omega (arith, u .seek .ensures .1, ap stepsOf (c .before .before .before .before .first .given .1), c .seek2 .ensures .1),
     )
 
 seek-returns-5 : (t : ℕ) → seek-lts.Need-returns-5 (calls t) (seek-at t) seek.Post
-seek-returns-5 t c = (λ cs us w are eb pu en pw. ended t (c .before .before) cs us w are eb pu en pw (ap told (c .enum-told .given .1)), omega (arith, c .before .before .seek .ensures .1))
+seek-returns-5 t c = (λ cs us w st. ended t (c .before .before) cs us w st (ap told (c .enum-told .given .1)), omega (arith, c .before .before .seek .ensures .1))
 
 seek-returns-6 : (t : ℕ) → seek-lts.Need-returns-6 (calls t) (seek-at t) seek.Post
-seek-returns-6 t c = (λ cs us w are eb pu en pw. ended t (c .before .before) cs us w are eb pu en pw (ap told (c .enum-told2 .given .1)), omega (arith, c .before .before .seek .ensures .1))
+seek-returns-6 t c = (λ cs us w st. ended t (c .before .before) cs us w st (ap told (c .enum-told2 .given .1)), omega (arith, c .before .before .seek .ensures .1))
 
 pub +seek-spec : {M : Type 1} → statement M
 +seek-spec = close μ-seek λ t. seek-lts.spec (calls t)
