@@ -6,7 +6,8 @@ use mathlib.Core.Path.{_≡_, refl, sym, ap, _∙_}
 use native.Mathlib.Omega.{arith}
 use lib.ListN.{length, take, length-map}
 use lib.Seq.{take-at}
-use Rattle.prepare.specs.Carried.{negated, Placed, Readable, Prepared, Tables}
+use Rattle.prepare.specs.Carried.{negated, Placed, Readable, Prepared, Tables, tabled}
+use Rattle.sheet.proofs.Answered.{Sized}
 use Rattle.sheet.proofs.Atoms.{objectives-literals, clauses-valued, valued-placed}
 use Rattle.sheet.proofs.EachOnce.{names-each-once}
 use Rattle.sheet.proofs.LiteralBytes.{is-literal, literals-of-bytes}
@@ -14,12 +15,12 @@ use Rattle.sheet.proofs.Understood.{passed, atoms-are, clauses-counted, objecti
 use Rattle.sheet.specs.Layout.{atomCount, clauseCount, objectiveBytes}
 use Rattle.sheet.specs.Literals.{Lit, atom, literal, isLiteral, byteOf, plains}
 use Rattle.sheet.specs.Order.{branch}
-use Rattle.sheet.specs.Reading.{sheetOf, Accepted}
+use Rattle.sheet.specs.Reading.{Reading, read, sheetOf, Accepted}
 use Rattle.words.proofs.Lists.{length-below}
 use Rattle.words.proofs.Members.{all-in}
 use Rattle.words.specs.Lists.{all, over, below}
 
--- ---- the branch order of an accepted sheet
+-- ---- the branch order and the clauses of an accepted sheet
 
 module _ (s : List ℕ) (ok : Accepted s) where
   branch-placed : Placed (branch (sheetOf s))
@@ -33,11 +34,17 @@ module _ (s : List ℕ) (ok : Accepted s) where
       let n = sheetOf s .atoms in
       length-map (branch (sheetOf s)) byteOf ∙ names-each-once s ok .counted ∙ length-map (below n) _ ∙ length-below n ∙ atoms-are s
 
+as-clauses : (s : List ℕ) (f : List Lit → ℕ) → length (map f (sheetOf s .clauses)) ≡ clauseCount s
+as-clauses s f = length-map (sheetOf s .clauses) f ∙ clauses-counted s
+
 -- ---- what its tables are to a walk
 
 module _ {s o ps ns : List ℕ} (t : Tables s o ps ns) where
   pub order-counted : length o ≡ atomCount s
   order-counted = ap length (t .order) ∙ branch-counted s (t .accepted)
+
+  pub sets-counted : (length ps ≡ clauseCount s) × (length ns ≡ clauseCount s)
+  sets-counted = (ap length (t .plain) ∙ as-clauses s plains, ap length (t .other) ∙ as-clauses s negated)
 
   pub prepared : Prepared (sheetOf s) o (objectiveBytes s) ps ns
   unfolding sheetOf
@@ -62,23 +69,29 @@ module _ {s o ps ns : List ℕ} (t : Tables s o ps ns) where
         order = ap (all (isLiteral 64)) (t .order) ∙ all-in (isLiteral 64) (map byteOf (branch (sheetOf s))) (branch-literal s ok);
         objectives = objectives-literals s ok;
         few = omega (arith, objective-bytes-counted s p, p .counted .objectives);
-        even = ap length (t .plain) ∙ length-map (sheetOf s .clauses) plains ∙ sym (ap length (t .other) ∙ length-map (sheetOf s .clauses) negated);
+        even = sets-counted .0 ∙ sym (sets-counted .1);
       }
 
 -- ---- where the tables stand
 
-sets-are : (s : List ℕ) (f : List Lit → ℕ) {ws : List ℕ} {m : ℕ} (rest : List ℕ) → ws ≡ over (map f (sheetOf s .clauses)) rest → m ≡ clauseCount s
-    → take m ws ≡ map f (sheetOf s .clauses)
-sets-are s f {m} rest e em = ap (take m) e ∙ take-at (map f (sheetOf s .clauses)) _ m (length-map (sheetOf s .clauses) f ∙ clauses-counted s ∙ sym em)
-
 -- in the first places of what they were written over
-pub tables : {s o ps ns : List ℕ} {n m : ℕ} (restO restP restN : List ℕ) → Accepted s → o ≡ over (map byteOf (branch (sheetOf s))) restO
-    → ps ≡ over (map plains (sheetOf s .clauses)) restP → ns ≡ over (map negated (sheetOf s .clauses)) restN → n ≡ atomCount s → m ≡ clauseCount s
-    → Tables s (take n o) (take m ps) (take m ns)
-tables {s} {n} restO restP restN ok eo ep eq en em =
+pub tables : {s o ps ns : List ℕ} {n m : ℕ} (restO restP restN : List ℕ) → Accepted s
+    → o ≡ over (map byteOf (branch (sheetOf s))) restO → ps ≡ over (map plains (sheetOf s .clauses)) restP → ns ≡ over (map negated (sheetOf s .clauses)) restN
+    → n ≡ atomCount s → m ≡ clauseCount s → Tables s (take n o) (take m ps) (take m ns)
+tables {s} {n} {m} restO restP restN ok eo ep eq en em =
     record {
       accepted = ok;
       order = ap (take n) eo ∙ take-at (map byteOf (branch (sheetOf s))) _ n (branch-counted s ok ∙ sym en);
-      plain = sets-are s plains restP ep em;
-      other = sets-are s negated restN eq em;
+      plain = ap (take m) ep ∙ take-at (map plains (sheetOf s .clauses)) _ m (as-clauses s plains ∙ sym em);
+      other = ap (take m) eq ∙ take-at (map negated (sheetOf s .clauses)) _ m (as-clauses s negated ∙ sym em);
     }
+
+-- the same where the sheet was read and answered with its sizes
+pub read-tables : {s o ps ns : List ℕ} {n m k : ℕ} (restO restP restN : List ℕ) → Sized s n m k
+    → o ≡ tabled (λ x. map byteOf (branch x)) (read s) restO → ps ≡ tabled (λ x. map plains (x .clauses)) (read s) restP → ns ≡ tabled (λ x. map negated (x .clauses)) (read s) restN
+    → Tables s (take n o) (take m ps) (take m ns)
+read-tables restO restP restN z eo ep eq =
+    let ok = z .accepted in
+    tables restO restP restN ok (eo ∙ ap (λ (v : Reading). tabled (λ x. map byteOf (branch x)) v restO) ok)
+    (ep ∙ ap (λ (v : Reading). tabled (λ x. map plains (x .clauses)) v restP) ok) (eq ∙ ap (λ (v : Reading). tabled (λ x. map negated (x .clauses)) v restN) ok)
+    (z .atoms) (z .clauses)

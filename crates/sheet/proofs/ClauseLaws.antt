@@ -1,4 +1,4 @@
--- The clauses of an accepted sheet: where they stand, that their bytes are literals, and their two sets of atoms. Assumes nothing.
+-- The clauses of an accepted sheet: where they stand, and that their bytes are literals. Assumes nothing.
 use Prim.Native.Nat.{ℕ, zero, suc, _+_, _-_, _≤_, _<_}
 use mathlib.Core.Bool.{true}
 use mathlib.Core.List.{List, List·Memᴰ as Mem, Memᴰ·cast as cast}

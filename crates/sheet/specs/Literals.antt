@@ -25,10 +25,11 @@ abbrev pub complement : Lit → Lit
 complement (pos a) = neg a
 complement (neg a) = pos a
 
--- the atoms that stand plain among some literals, as a set: atom a is position a - 1
+-- the position of a literal's atom in a set: atom a is position a - 1
 abbrev pub place : Lit → ℕ
 place l = atom l - 1
 
+-- the atoms that stand plain among some literals, as a set
 unfoldable pub plains : List Lit → ℕ
 plains ls = setOf (map place (pick plain ls))
 
