@@ -1,23 +1,20 @@
 // The query: the checks in the document's order, then the search.
 ghost use mathlib.Core.Path.{_≡_};
-ghost use mathlib.Core.Bool.{true, cond};
+ghost use mathlib.Core.Bool.{cond};
+ghost use Prim.Native.Nat.{_≤_};
+ghost use lib.ListN.{length};
+ghost use Rattle.words.specs.Lists.{over};
 ghost use Rattle.words.specs.Positions.{has};
-ghost use mathlib.Core.List.{List, [], _++_, map};
-ghost use Prim.Native.Nat.{ℕ, _≤_, _<_};
-ghost use lib.ListN.{length, drop};
-ghost use Rattle.sheet.specs.Layout.{atomCount, clauseCount};
-ghost use Rattle.sheet.specs.Literals.{isLiteral, literal};
-ghost use Rattle.sheet.specs.Reading.{sheetOf, Accepted};
-ghost use Rattle.search.specs.Grown.{game};
-ghost use Rattle.search.specs.Search.{search, answered};
-ghost use Rattle.walk.specs.Carried.{runOf};
-ghost use Rattle.query.specs.Query.{leaves, replyOf, codeOf, valuesOf, witnessed, afterWalk, queryOf};
-ghost use Rattle.query.specs.Promise.{Answers, Counts};
+ghost use Rattle.prepare.specs.Carried.{Tables};
+ghost use Rattle.search.specs.Search.{codeOf};
+ghost use Rattle.walk.specs.Carried.{answerOf};
+ghost use Rattle.query.specs.Query.{checked as checkedAs, replyOf, result, valuesOf, witnessed, queryOf};
+ghost use Rattle.query.specs.Promise.{Right, Bounded};
+use prepare::order::objectives;
+use prepare::prepare;
 use sheet::Checked;
-use sheet::clauses::clauses_into;
+use sheet::bytes::word_at;
 use sheet::literal::is_literal;
-use sheet::order::branch_order;
-use sheet::order::objectives;
 use walk::candidates::Ending;
 use walk::candidates::Walked;
 use walk::candidates::walk_all;
@@ -55,7 +52,7 @@ fn value_byte(model: u64, i: u8) -> u8
 // Writes the values of the atoms 1 to n into the first n bytes.
 fn write_values(model: u64, n: usize, witness: &mut [u8])
     requires { ⌜ (n ≤ 64) × (n ≤ length (now witness)) ⌝ }
-    ensures { λ _. ⌜ now (witness .exit) ≡ valuesOf n model ++ drop n (now (witness .entry)) ⌝ }
+    ensures { λ _. ⌜ now (witness .exit) ≡ over (valuesOf n model) (now (witness .entry)) ⌝ }
 {
     let mut i = 0;
     while i < n {
@@ -64,68 +61,75 @@ fn write_values(model: u64, n: usize, witness: &mut [u8])
     }
 }
 
-// The reply of a walk that has ended, and the witness on a yes.
-fn finish(w: Walked, n: usize, witness: &mut [u8]) -> Reply
-    requires { ⌜ (n ≤ 64) × (n ≤ length (now witness)) ⌝ }
-    ensures { λ r. ⌜ (r ≡ replyOf (codeOf (answered (runOf w []))) (w .steps) (w .tests) (w .stored)) × (now (witness .exit) ≡ witnessed (answered (runOf w [])) n (now (witness .entry))) ⌝ }
+// The code of a walk that has ended.
+fn code_of(ending: Ending) -> u8
+    ensures { λ r. ⌜ r ≡ codeOf (answerOf ending) ⌝ }
 {
-    let ending = w.ending;
     match ending {
-        Ending::Affirmed(model) => {
-            write_values(model, n, witness);
-            Reply {
-                code: 1,
-                steps: w.steps,
-                tests: w.tests,
-                stored: w.stored,
-            }
-        }
-        Ending::Going => Reply {
-            code: 2,
-            steps: w.steps,
-            tests: w.tests,
-            stored: w.stored,
-        },
-        Ending::Exhausted => Reply {
-            code: 18,
-            steps: w.steps,
-            tests: w.tests,
-            stored: w.stored,
-        },
-        Ending::Full => Reply {
-            code: 19,
-            steps: w.steps,
-            tests: w.tests,
-            stored: w.stored,
-        },
+        Ending::Affirmed(_) => 1,
+        Ending::Going => 2,
+        Ending::Exhausted => 18,
+        Ending::Full => 19,
     }
 }
 
-// The search on an accepted sheet.
-fn run(
+// Writes the witness on a yes.
+fn show(ending: Ending, n: usize, witness: &mut [u8])
+    requires { ⌜ (n ≤ 64) × (n ≤ length (now witness)) ⌝ }
+    ensures { λ _. ⌜ now (witness .exit) ≡ witnessed (answerOf ending) n (now (witness .entry)) ⌝ }
+{
+    match ending {
+        Ending::Affirmed(model) => write_values(model, n, witness),
+        Ending::Going => {}
+        Ending::Exhausted => {}
+        Ending::Full => {}
+    }
+}
+
+// The reply of a walk that has ended, and the witness on a yes.
+fn finish(w: Walked, n: usize, witness: &mut [u8]) -> Reply
+    requires { ⌜ (n ≤ 64) × (n ≤ length (now witness)) ⌝ }
+    ensures { λ r. ⌜ r ≡ replyOf (codeOf (answerOf (w .ending))) (w .steps) (w .tests) (w .stored) ⌝ }
+    ensures { λ r. ⌜ now (witness .exit) ≡ witnessed (answerOf (w .ending)) n (now (witness .entry)) ⌝ }
+{
+    let ending = w.ending;
+    show(ending, n, witness);
+    Reply {
+        code: code_of(ending),
+        steps: w.steps,
+        tests: w.tests,
+        stored: w.stored,
+    }
+}
+
+// A query of a sheet whose tables are ready: checks 16 and 17, then the search. It promises what `query` does.
+pub fn ask(
     sheet: &[u8],
-    atoms: u8,
-    clauses: usize,
+    order: &[u8],
+    plains: &[u64],
+    negated: &[u64],
     question: u8,
     allowance: u64,
     store: &mut [u64],
     witness: &mut [u8],
 ) -> Reply
-    requires { ⌜ (Accepted (now sheet)) × ((atoms ≡ atomCount (now sheet)) × (clauses ≡ clauseCount (now sheet))) ⌝ }
-    requires { ⌜ (isLiteral (atomCount (now sheet)) question ≡ true) × (atoms ≤ length (now witness)) ⌝ }
-    ensures { λ r. ⌜ leaves r (now (store .exit)) (now (witness .exit)) ≡ afterWalk (atomCount (now (sheet .entry))) (search (game (sheetOf (now (sheet .entry))) (literal question)) allowance (length (now (store .entry)))) (now (store .entry)) (now (witness .entry)) ⌝ }
+    requires { ⌜ Tables (now sheet) (now order) (now plains) (now negated) ⌝ }
+    ensures defined { λ r. ⌜ result r (now (store .exit)) (now (witness .exit)) ≡ queryOf (now (sheet .entry)) question allowance (now (store .entry)) (now (witness .entry)) ⌝ }
+    ensures right { λ r. ⌜ Right (checkedAs (now (sheet .entry)) question (length (now (witness .entry)))) question allowance (length (now (store .entry))) r (now (witness .entry)) (now (witness .exit)) ⌝ }
+    ensures bounded { λ r. ⌜ Bounded (checkedAs (now (sheet .entry)) question (length (now (witness .entry)))) question (length (now (store .entry))) r ⌝ }
 {
-    let mut plains = [0u64; 1024];
-    let mut negated = [0u64; 1024];
-    let mut order = [0u8; 128];
-    clauses_into(sheet, &mut plains, &mut negated);
-    branch_order(sheet, &mut order);
-    let n = atoms as usize;
+    let n = word_at(sheet, 0) as usize;
+    if !is_literal(question, n as u8) {
+        return refused(16);
+    }
+    if witness.len() < n {
+        return refused(17);
+    }
     let w = walk_all(
-        &order[..n],
+        order,
         objectives(sheet),
-        &plains[..clauses],
-        &negated[..clauses],
+        plains,
+        negated,
         question,
         allowance,
         store,
@@ -141,21 +145,28 @@ pub fn query(
     store: &mut [u64],
     witness: &mut [u8],
 ) -> Reply
-    ensures defined { λ r. ⌜ leaves r (now (store .exit)) (now (witness .exit)) ≡ queryOf (now (sheet .entry)) question allowance (now (store .entry)) (now (witness .entry)) ⌝ }
-    ensures answers { λ r. ⌜ Answers (now (sheet .entry)) question (r .code) (now (witness .entry)) (now (witness .exit)) ⌝ }
-    ensures counts { λ r. ⌜ Counts (now (sheet .entry)) question (length (now (store .entry))) (r .code) (r .tests) (r .stored) ⌝ }
+    ensures defined { λ r. ⌜ result r (now (store .exit)) (now (witness .exit)) ≡ queryOf (now (sheet .entry)) question allowance (now (store .entry)) (now (witness .entry)) ⌝ }
+    ensures right { λ r. ⌜ Right (checkedAs (now (sheet .entry)) question (length (now (witness .entry)))) question allowance (length (now (store .entry))) r (now (witness .entry)) (now (witness .exit)) ⌝ }
+    ensures bounded { λ r. ⌜ Bounded (checkedAs (now (sheet .entry)) question (length (now (witness .entry)))) question (length (now (store .entry))) r ⌝ }
 {
-    let checked = sheet::check(sheet);
+    let mut plains = [0u64; 1024];
+    let mut negated = [0u64; 1024];
+    let mut order = [0u8; 128];
+    let checked = prepare(sheet, &mut plains, &mut negated, &mut order);
     match checked {
         Checked::Refused(code) => refused(code),
-        Checked::Accepted(atoms, clauses, _) => {
-            if !is_literal(question, atoms) {
-                return refused(16);
-            }
-            if witness.len() < atoms as usize {
-                return refused(17);
-            }
-            run(sheet, atoms, clauses, question, allowance, store, witness)
+        Checked::Sizes(atoms, clauses, _) => {
+            let n = atoms as usize;
+            ask(
+                sheet,
+                &order[..n],
+                &plains[..clauses],
+                &negated[..clauses],
+                question,
+                allowance,
+                store,
+                witness,
+            )
         }
     }
 }

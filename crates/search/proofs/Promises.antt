@@ -83,6 +83,20 @@ module _ (p : Preference) (x : Sheet) (q : Lit) (allowance places steps stored :
         fullThere = λ _. there;
       }
 
+-- the model shown in another way
+pub shown-as : {p : Preference} {x : Sheet} {q : Lit} {allowance places code steps stored : ℕ} {Shows Shows′ : ℕ → Type 0}
+    → ((m : ℕ) → Shows m → Shows′ m) → Demand2 p x q allowance places code steps stored Shows → Demand2 p x q allowance places code steps stored Shows′
+shown-as as-well d =
+    record {
+      codes = d .codes;
+      affirmed = d .affirmed;
+      denied = d .denied;
+      shown = λ e. let u = d .shown e in (u .0, u .1, as-well (u .0) (u .2));
+      allowed = d .allowed;
+      cutThere = d .cutThere;
+      fullThere = d .fullThere;
+    }
+
 code-full : (a : Answer) → codeOf a ≡ 19 → a ≡ NoPlace
 code-full (Yes m) e = absurd (omega arith)
 code-full No e = absurd (omega arith)

@@ -7,7 +7,7 @@ use mathlib.Core.Path.{_≡_, refl, sym, ap, _∙_, subst}
 use native.Mathlib.Nat.{eq-or-lt-of-le, le-of-suc-le-suc}
 use native.Mathlib.Numerals.{add-one}
 use native.Mathlib.Omega.{arith}
-use lib.ListN.{length, getD, drop, set, length-append, drop-of-length-le, List·getD-append}
+use lib.ListN.{length, getD, take, drop, set, length-append, take-append-drop, drop-of-length-le, List·getD-append}
 use lib.Seq.{drop-cons, getD-at, set-at, append-snoc}
 use Rattle.words.specs.Lists.{any, all, over, below}
 
@@ -66,6 +66,10 @@ module _ (f : ℕ → Bool) (n i : ℕ) where
 
   pub all-numbers-end : n ≤ i → all f (drop i (below n)) ≡ true
   all-numbers-end h = all-end f 0 (below n) i (past-below h)
+
+-- what can be taken whole is there
+pub taken-fits : {A : Type 0} (n : ℕ) (xs : List A) → length (take n xs) ≡ n → n ≤ length xs
+taken-fits n xs e = omega (arith, sym (length-append (take n xs) (drop n xs)) ∙ ap length (take-append-drop n xs))
 
 -- ---- a list that is filled from the front
 
