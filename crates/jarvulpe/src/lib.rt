@@ -2,21 +2,21 @@
 ghost use mathlib.Core.Path.{_≡_};
 ghost use lib.ListN.{length};
 ghost use Rattle.sheet.specs.Reading.{read};
-ghost use Rattle.query.specs.Query.{queryOf};
-ghost use Rattle.query.specs.Promise.{Answers, Counts};
-ghost use Rattle.jarvulpe.specs.Boundary.{codeOf, sizesOf, countsOf, testsIn, storedIn};
+ghost use Rattle.query.specs.Query.{checked, queryOf};
+ghost use Rattle.query.specs.Promise.{Right, Bounded};
+ghost use Rattle.jarvulpe.specs.Boundary.{checkCode, sizesOf, countsOf, replyIn};
 use query::query;
 use sheet::Checked;
 
 // The check of a sheet: 10 to 15 where it is refused; else 0, with the numbers of atoms, clauses and objectives in `sizes`.
 #[no_mangle]
 pub extern "C" fn jarvulpe_check(sheet: &[u8], sizes: &mut [u32; 3]) -> u8
-    ensures { λ r. ⌜ (r ≡ codeOf (read (now (sheet .entry)))) × (now (sizes .exit) ≡ sizesOf (read (now (sheet .entry))) (now (sizes .entry))) ⌝ }
+    ensures { λ r. ⌜ (r ≡ checkCode (read (now (sheet .entry)))) × (now (sizes .exit) ≡ sizesOf (read (now (sheet .entry))) (now (sizes .entry))) ⌝ }
 {
     let answer = sheet::check(sheet);
     match answer {
         Checked::Refused(code) => code,
-        Checked::Accepted(atoms, clauses, objectives) => {
+        Checked::Sizes(atoms, clauses, objectives) => {
             *sizes = [atoms as u32, clauses as u32, objectives as u32];
             0
         }
@@ -38,8 +38,8 @@ pub extern "C" fn jarvulpe_query(
     ensures counts { λ r. ⌜ now (counts .exit) ≡ countsOf (queryOf (now (sheet .entry)) question allowance (now (store .entry)) (now (witness .entry)) .reply) ⌝ }
     ensures store { λ r. ⌜ now (store .exit) ≡ queryOf (now (sheet .entry)) question allowance (now (store .entry)) (now (witness .entry)) .store ⌝ }
     ensures witness { λ r. ⌜ now (witness .exit) ≡ queryOf (now (sheet .entry)) question allowance (now (store .entry)) (now (witness .entry)) .witness ⌝ }
-    ensures answers { λ r. ⌜ Answers (now (sheet .entry)) question r (now (witness .entry)) (now (witness .exit)) ⌝ }
-    ensures bounded { λ r. ⌜ Counts (now (sheet .entry)) question (length (now (store .entry))) r (testsIn (now (counts .exit))) (storedIn (now (counts .exit))) ⌝ }
+    ensures right { λ r. ⌜ Right (checked (now (sheet .entry)) question (length (now (witness .entry)))) question allowance (length (now (store .entry))) (replyIn r (now (counts .exit))) (now (witness .entry)) (now (witness .exit)) ⌝ }
+    ensures bounded { λ r. ⌜ Bounded (checked (now (sheet .entry)) question (length (now (witness .entry)))) question (length (now (store .entry))) (replyIn r (now (counts .exit))) ⌝ }
 {
     let reply = query(sheet, question, allowance, store, witness);
     *counts = [reply.steps, reply.tests, reply.stored as u64];

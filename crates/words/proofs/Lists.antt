@@ -73,7 +73,7 @@ taken-fits n xs e = omega (arith, sym (length-append (take n xs) (drop n xs)) �
 
 -- ---- a list that is filled from the front
 
-pub put-next : {A : Type 0} (xs d : List A) (i : ℕ) (v z : A) → length xs ≡ i → i < length d → set (xs ++ drop i d) i v ≡ (xs ++ (v ∷ [])) ++ drop (i + 1) d
+put-next : {A : Type 0} (xs d : List A) (i : ℕ) (v z : A) → length xs ≡ i → i < length d → set (xs ++ drop i d) i v ≡ (xs ++ (v ∷ [])) ++ drop (i + 1) d
 put-next xs d i v z e h =
     ap (λ l. set (xs ++ l) i v) (onward z d i h) ∙ set-at xs (getD d i z) (drop (i + 1) d) v i e ∙ sym (append-snoc xs v (drop (i + 1) d))
 

@@ -5,7 +5,7 @@ use native.Mathlib.Omega.{arith}
 use borrow.Author.Needs.{needs}
 use Rattle.jarvulpe.proofs.jarvulpe_check.Statement.{statement}
 use Rattle.jarvulpe.proofs.jarvulpe_check.Tie as tie
-use Rattle.jarvulpe.specs.Boundary.{codeOf, sizesOf}
+use Rattle.jarvulpe.specs.Boundary.{checkCode, sizesOf}
 use Rattle.sheet.proofs.Answered.{Sized, answered-refused, answered-accepted}
 use Rattle.sheet.proofs.Understood.{passed, atoms-are, clauses-counted, objectives-counted}
 use Rattle.sheet.specs.Passed.{Whole}
@@ -40,7 +40,7 @@ returns c =
     let u = c .before .before .before in
     let a = u .before .before .args in
     let e = answered-refused (a .sheet .now) (sym (c .before .answer .given .1) ∙ u .check .ensures) in
-    (ap codeOf (sym e), ap (λ (v : Reading). sizesOf v (a .sizes .now)) (sym e))
+    (ap checkCode (sym e), ap (λ (v : Reading). sizesOf v (a .sizes .now)) (sym e))
 
 returns-2 : tie.Need-returns-2
 returns-2 c =
@@ -48,7 +48,7 @@ returns-2 c =
     let a = c .before .before .before .before .before .before .args in
     let s = a .sheet .now in
     let p = few (c .before .before) in (
-      ap codeOf (sym (z .accepted)),
+      ap checkCode (sym (z .accepted)),
       (λ i. (z .atoms ∙ sym (atoms-are s)) i ∷ (z .clauses ∙ sym (clauses-counted s)) i ∷ (z .objectives ∙ sym (objectives-counted s p)) i ∷ [])
           ∙ ap (λ (v : Reading). sizesOf v (a .sizes .now)) (sym (z .accepted)),
     )
