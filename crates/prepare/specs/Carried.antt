@@ -9,7 +9,7 @@ use Rattle.prepare.specs.declared.clauses.Literals.{Literals}
 use Rattle.prepare.specs.declared.order.Named.{Named}
 use Rattle.sheet.specs.Literals.{Lit, atom, plain, place, plains, literal, isLiteral, byteOf}
 use Rattle.sheet.specs.Order.{names, branch}
-use Rattle.sheet.specs.Reading.{Sheet, Reading, refused, understood, sheetOf, Accepted}
+use Rattle.sheet.specs.Reading.{Sheet, Reading, refused, understood, sheetOf, read, Accepted}
 use Rattle.words.specs.Lists.{any, all, pick, over, Distinct}
 use Rattle.words.specs.Positions.{has, setOf}
 
@@ -62,7 +62,22 @@ pub record Tables (s o ps ns : List ℕ) : Type 0 where
   pub plain : ps ≡ map plains (sheetOf s .clauses)
   pub other : ns ≡ map negated (sheetOf s .clauses)
 
--- what a table holds once a sheet was read: that of the sheet in its first places, or, where it is refused, what it held
+-- what a lent array holds once a sheet was read: a table of the sheet in its first places, or, where it is refused, what it held
 abbrev pub tabled : (Sheet → List ℕ) → Reading → List ℕ → List ℕ
 tabled f (refused c) before = before
 tabled f (understood x) before = over (f x) before
+
+abbrev pub plainTable : Reading → List ℕ → List ℕ
+plainTable = tabled (λ x. map plains (x .clauses))
+
+abbrev pub negatedTable : Reading → List ℕ → List ℕ
+negatedTable = tabled (λ x. map negated (x .clauses))
+
+abbrev pub orderTable : Reading → List ℕ → List ℕ
+orderTable = tabled (λ x. map byteOf (branch x))
+
+-- the three arrays are as a reading of the sheet leaves them, whatever they held before
+pub record Filled (s ps ns o : List ℕ) : Type 0 where
+  pub plain : (before : List ℕ) × (ps ≡ plainTable (read s) before)
+  pub other : (before : List ℕ) × (ns ≡ negatedTable (read s) before)
+  pub order : (before : List ℕ) × (o ≡ orderTable (read s) before)

@@ -1,11 +1,8 @@
 // A sheet made ready for a walk: its clauses as words, its objectives, its branch order.
 ghost use mathlib.Core.Path.{_≡_};
-ghost use mathlib.Core.List.{map};
 ghost use Rattle.sheet.specs.Answers.{checkOf};
-ghost use Rattle.sheet.specs.Literals.{byteOf, plains as plainAtoms};
-ghost use Rattle.sheet.specs.Order.{branch};
 ghost use Rattle.sheet.specs.Reading.{read};
-ghost use Rattle.prepare.specs.Carried.{negated as negatedAtoms, tabled};
+ghost use Rattle.prepare.specs.Carried.{plainTable, negatedTable, orderTable};
 use sheet::Checked;
 
 pub mod clauses;
@@ -19,9 +16,9 @@ pub fn prepare(
     order: &mut [u8; 128],
 ) -> Checked
     ensures checked { λ r. ⌜ r ≡ checkOf (read (now (sheet .entry))) ⌝ }
-    ensures plains { λ r. ⌜ now (plains .exit) ≡ tabled (λ x. map plainAtoms (x .clauses)) (read (now (sheet .entry))) (now (plains .entry)) ⌝ }
-    ensures negated { λ r. ⌜ now (negated .exit) ≡ tabled (λ x. map negatedAtoms (x .clauses)) (read (now (sheet .entry))) (now (negated .entry)) ⌝ }
-    ensures order { λ r. ⌜ now (order .exit) ≡ tabled (λ x. map byteOf (branch x)) (read (now (sheet .entry))) (now (order .entry)) ⌝ }
+    ensures plains { λ r. ⌜ now (plains .exit) ≡ plainTable (read (now (sheet .entry))) (now (plains .entry)) ⌝ }
+    ensures negated { λ r. ⌜ now (negated .exit) ≡ negatedTable (read (now (sheet .entry))) (now (negated .entry)) ⌝ }
+    ensures order { λ r. ⌜ now (order .exit) ≡ orderTable (read (now (sheet .entry))) (now (order .entry)) ⌝ }
 {
     let checked = sheet::check(sheet);
     match checked {

@@ -1,39 +1,30 @@
 -- What a line's yes and no say of the models. Assumes nothing.
 use Prim.Native.Nat.{ℕ, _<_, _+_, _-_}
 use mathlib.Core.Bool.{true, false, not}
-use mathlib.Core.List.{List}
-use mathlib.Core.Logic.{_⊎_, inl, inr}
+use mathlib.Core.List.{List, [], _∷_, List·Memᴰ as Mem}
 use mathlib.Core.Path.{_≡_, refl, sym, ap, subst, _∙_}
+use native.Mathlib.Omega.{arith}
 use borrow.Author.Tests.{not-false, le-ltb}
 use lib.Dec.{lit≤}
 use lib.ListN.{length, replicate}
 use Rattle.query.proofs.Checking.{accepted-checked}
 use Rattle.query.proofs.Promises.{as-checked}
-use Rattle.query.specs.Promise.{Answers}
-use Rattle.query.specs.Query.{codeOf, checked, resultAs, queryOf}
+use Rattle.query.specs.Promise.{Right}
+use Rattle.query.specs.Query.{valuesOf, checked, resultAs, queryOf}
 use Rattle.report.specs.Lines.{asked}
 use Rattle.search.proofs.Nodes.{complement-atom, holds-complement, complement-true}
-use Rattle.search.specs.Grown.{game}
-use Rattle.search.specs.Models.{holds, Optimal}
-use Rattle.search.specs.Search.{Answer, Yes, No, Cut, NoPlace, search as searched, answered}
-use Rattle.sheet.proofs.EachOnce.{objective-literal, objectives-literals}
+use Rattle.search.specs.Demands.{Demand2}
+use Rattle.search.specs.Models.{holds, containment, Optimal}
+use Rattle.sheet.proofs.Atoms.{objective-literal, objectives-literals}
+use Rattle.sheet.proofs.LiteralBytes.{complement-literal, complement-is-literal}
 use Rattle.sheet.proofs.Literals.{literal-atom, byte-of-literal, literal-small}
 use Rattle.sheet.proofs.Understood.{passed}
 use Rattle.sheet.specs.Layout.{atomCount, byte, objectiveBytes}
-use Rattle.sheet.specs.Literals.{Lit, atom, literal, between, isLiteral, byteOf, complement}
+use Rattle.sheet.specs.Literals.{Lit, atom, complement, literal, between, isLiteral, byteOf}
 use Rattle.sheet.specs.Reading.{Reading, understood, sheetOf, Accepted}
-use Rattle.walk.proofs.Bytes.{complement-literal, complement-is-literal}
 use Rattle.words.proofs.Bools.{refuted}
 use Rattle.words.proofs.Members.{all-out, mem-at}
-
-abbrev OneOfFour : ℕ → Type 0
-OneOfFour code = ((code ≡ 1) ⊎ (code ≡ 2)) ⊎ ((code ≡ 18) ⊎ (code ≡ 19))
-
-of-walk : (a : Answer) → OneOfFour (codeOf a)
-of-walk (Yes m) = inl (inl refl)
-of-walk No = inl (inr refl)
-of-walk Cut = inr (inl refl)
-of-walk NoPlace = inr (inr refl)
+use Rattle.words.specs.Lists.{over}
 
 -- the byte that stands for a literal is the one that is read as it
 pub its-byte : (c : ℕ) {l : Lit} → isLiteral 64 c ≡ true → literal c ≡ l → byteOf l ≡ c
@@ -56,25 +47,6 @@ module _ (s : List ℕ) (ok : Accepted s) (i : ℕ) (there : i < length (objecti
   question : literal (byteOf (complement objective)) ≡ complement objective
   question = ap literal asked-byte ∙ complement-literal b objective-is-literal
 
-  answers : (store witness : List ℕ) (allowance : ℕ) → let r = queryOf s (byteOf (complement objective)) allowance store witness in Answers s (byteOf (complement objective)) (r .reply .code) witness (r .witness)
-  unfolding queryOf
-  answers store witness allowance = as-checked s _ allowance store witness (checked s (byteOf (complement objective)) (length witness)) refl refl .1 .0
-
-  -- yes: some optimal model throws the objective out
-  pub suspect : asked s objective .code ≡ 1 → (m : ℕ) × Optimal (sheetOf s) m × (holds m objective ≡ false)
-  unfolding asked
-  suspect e =
-      let y = answers (replicate 1024 0) (replicate 64 0) 1000000 .yes e in
-      (y .0, y .1 .optimal, complement-true (y .0) objective (subst (λ (l : Lit). holds (y .0) l ≡ true) question (y .1 .affirms)))
-
-  -- no: every optimal model keeps it
-  pub kept : asked s objective .code ≡ 2 → (m : ℕ) → Optimal (sheetOf s) m → holds m objective ≡ true
-  unfolding asked
-  kept e m best =
-      let q = literal (byteOf (complement objective)) in
-      not-false (holds m objective)
-      (sym (holds-complement m objective) ∙ sym (ap (holds m) question) ∙ refuted (holds m q) (answers (replicate 1024 0) (replicate 64 0) 1000000 .none e m best))
-
   -- the question passes the checks
   asks : isLiteral (atomCount s) (byteOf (complement objective)) ≡ true
   asks =
@@ -88,9 +60,32 @@ module _ (s : List ℕ) (ok : Accepted s) (i : ℕ) (there : i < length (objecti
   passes : understood (sheetOf s) ≡ checked s (byteOf (complement objective)) 64
   passes = accepted-checked s (byteOf (complement objective)) 64 ok (ap not asks) (le-ltb 64 (atomCount s) (passed s ok .sized .counted .atoms))
 
-  -- "`yes`, `no`, or 18 or 19": no other code stands in a line
-  pub one-of-four : OneOfFour (asked s objective .code)
+  -- demand 2 of the line's question
+  demand : let r = asked s objective in
+      Demand2 containment (sheetOf s) (literal (byteOf (complement objective))) 1000000 1024 (r .code) (r .steps) (r .stored)
+      (λ m. queryOf s (byteOf (complement objective)) 1000000 (replicate 1024 0) (replicate 64 0) .witness ≡ over (valuesOf (sheetOf s .atoms) m) (replicate 64 0))
   unfolding asked queryOf
-  one-of-four =
+  demand =
       let q = byteOf (complement objective) in
-      subst (λ (v : Reading). OneOfFour (resultAs v q 1000000 (replicate 1024 0) (replicate 64 0) .reply .code)) passes (of-walk (answered (searched (game (sheetOf s) (literal q)) 1000000 1024)))
+      let store = replicate {A = ℕ} 1024 0 in
+      let witness = replicate {A = ℕ} 64 0 in
+      let r = resultAs (checked s q 64) q 1000000 store witness in
+      subst (λ (v : Reading). Right v q 1000000 1024 (r .reply) witness (r .witness)) (sym passes) (as-checked s q 1000000 store witness (checked s q 64) refl refl .1 .0)
+
+  -- yes: some optimal model throws the objective out
+  pub suspect : asked s objective .code ≡ 1 → (m : ℕ) × Optimal containment (sheetOf s) m × (holds m objective ≡ false)
+  suspect e =
+      let y = demand .shown e in
+      (y .0, y .1 .optimal, complement-true (y .0) objective (subst (λ (l : Lit). holds (y .0) l ≡ true) question (y .1 .affirms)))
+
+  -- no: every optimal model keeps it
+  pub kept : asked s objective .code ≡ 2 → (m : ℕ) → Optimal containment (sheetOf s) m → holds m objective ≡ true
+  kept e m best =
+      let q = literal (byteOf (complement objective)) in
+      let none = demand .denied (λ f. absurd (omega arith), λ f. absurd (omega arith)) .0 e in
+      not-false (holds m objective)
+      (sym (holds-complement m objective) ∙ sym (ap (holds m) question) ∙ refuted (holds m q) (λ t. none (m, best, t)))
+
+  -- "`yes`, `no`, or 18 or 19": no other code stands in a line
+  pub one-of-four : Mem (asked s objective .code) (1 ∷ 2 ∷ 18 ∷ 19 ∷ [])
+  one-of-four = demand .codes

@@ -25,8 +25,8 @@ heading (refused c) = letters "refused" ++ field (decimal c) ++ newline
 heading (understood x) = letters "sheet" ++ field (decimal (x .atoms)) ++ field (decimal (length (x .clauses))) ++ field (decimal (length (x .objectives))) ++ newline
 
 -- "`yes`, `no`, or 18 or 19"
-unfoldable pub answer : ℕ → List ℕ
-answer code = cond (eqb code 1) (letters "yes") (cond (eqb code 2) (letters "no") (decimal code))
+unfoldable pub verdict : ℕ → List ℕ
+verdict code = cond (eqb code 1) (letters "yes") (cond (eqb code 2) (letters "no") (decimal code))
 
 -- "steps, tests, stored"
 abbrev pub counts : Reply → List ℕ
@@ -34,7 +34,7 @@ counts r = field (decimal (r .steps)) ++ field (decimal (r .tests)) ++ field (de
 
 -- "position from 1, the literal in signed decimal, the answer to its complement .., steps, tests, stored"
 unfoldable pub line : ℕ → Lit → Reply → List ℕ
-line i l r = decimal (i + 1) ++ field (signedDecimal (not (plain l)) (atom l)) ++ field (answer (r .code)) ++ counts r
+line i l r = decimal (i + 1) ++ field (signedDecimal (not (plain l)) (atom l)) ++ field (verdict (r .code)) ++ counts r
 
 -- the reply to "its complement"; "Each question has 1,000,000 steps and 1,024 places." Store and witness buffer hold zeros beforehand, and the
 -- buffer has a byte for each of the 64 atoms that a sheet can have.

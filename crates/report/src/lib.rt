@@ -7,17 +7,20 @@ ghost use lib.ListN.{length};
 ghost use Rattle.sheet.specs.Literals.{isLiteral, literal, plain, atom};
 ghost use Rattle.sheet.specs.Reading.{read};
 ghost use Rattle.text.specs.Text.{letters, decimal, signedDecimal, Puts};
-ghost use Rattle.report.specs.Lines.{field, newline, heading as headingOf, answer, counts, line as lineOf, lineCount, lineAt};
+ghost use Rattle.prepare.specs.Carried.{plainTable, negatedTable, orderTable, Filled};
+ghost use Rattle.report.specs.Lines.{field, newline, heading as headingOf, verdict, counts, line as lineOf, lineCount, lineAt};
+use prepare::order::objectives;
+use prepare::prepare;
 use query::Reply;
-use query::query;
+use query::ask;
 use sheet::Checked;
+use sheet::bytes::word_at;
 use sheet::literal::Literal;
+use sheet::literal::complement;
 use sheet::literal::literal_of;
-use sheet::order::objectives;
 use text::put;
 use text::put_decimal;
 use text::put_signed;
-use walk::node::complement;
 
 // The first line of a sheet: how long it is, and how many lines follow.
 pub struct Opening {
@@ -49,7 +52,7 @@ fn put_literal(b: u8, at: usize, out: &mut [u8]) -> usize
 // An answer as a field.
 fn put_answer(code: u8, at: usize, out: &mut [u8]) -> usize
     requires { ⌜ at + 21 ≤ length (now out) ⌝ }
-    ensures { λ r. ⌜ Puts (field (answer code)) at (now (out .entry)) (now (out .exit)) r ⌝ }
+    ensures { λ r. ⌜ Puts (field (verdict code)) at (now (out .entry)) (now (out .exit)) r ⌝ }
     ensures { λ r. ⌜ r ≤ at + 21 ⌝ }
 {
     if code == 1 {
@@ -120,42 +123,62 @@ fn put_line(i: usize, b: u8, reply: Reply, out: &mut [u8]) -> usize
     put_counts(reply, answer, out)
 }
 
-// Puts the first line of a sheet, for every byte string.
-pub fn heading(sheet: &[u8], out: &mut [u8; 128]) -> Opening
+// Prepares a sheet and puts its first line, for every byte string.
+pub fn heading(
+    sheet: &[u8],
+    plains: &mut [u64; 1024],
+    negated: &mut [u64; 1024],
+    order: &mut [u8; 128],
+    out: &mut [u8; 128],
+) -> Opening
     ensures text { λ r. ⌜ Puts (headingOf (read (now (sheet .entry)))) 0 (now (out .entry)) (now (out .exit)) (r .length) ⌝ }
     ensures lines { λ r. ⌜ r .lines ≡ lineCount (read (now (sheet .entry))) ⌝ }
+    ensures plains { λ r. ⌜ now (plains .exit) ≡ plainTable (read (now (sheet .entry))) (now (plains .entry)) ⌝ }
+    ensures negated { λ r. ⌜ now (negated .exit) ≡ negatedTable (read (now (sheet .entry))) (now (negated .entry)) ⌝ }
+    ensures order { λ r. ⌜ now (order .exit) ≡ orderTable (read (now (sheet .entry))) (now (order .entry)) ⌝ }
     ensures fits { λ r. ⌜ r .length ≤ length (now (out .exit)) ⌝ }
 {
-    let checked = sheet::check(sheet);
+    let checked = prepare(sheet, plains, negated, order);
     match checked {
         Checked::Refused(code) => Opening {
             length: put_refusal(code, out),
             lines: 0,
         },
-        Checked::Accepted(atoms, clauses, objectives) => Opening {
+        Checked::Sizes(atoms, clauses, objectives) => Opening {
             length: put_sizes(atoms as u64, clauses as u64, objectives as u64, out),
             lines: objectives,
         },
     }
 }
 
-// Puts the line of the objective at position i, or nothing where there is none.
-pub fn line(sheet: &[u8], i: usize, out: &mut [u8; 128]) -> usize
+// Puts the line of the objective at position i of a sheet that has been prepared.
+pub fn line(
+    sheet: &[u8],
+    plains: &[u64],
+    negated: &[u64],
+    order: &[u8],
+    i: usize,
+    out: &mut [u8; 128],
+) -> usize
+    requires { ⌜ Filled (now sheet) (now plains) (now negated) (now order) ⌝ }
+    requires { ⌜ i < lineCount (read (now sheet)) ⌝ }
     ensures text { λ r. ⌜ Puts (lineAt (now (sheet .entry)) i) 0 (now (out .entry)) (now (out .exit)) r ⌝ }
     ensures fits { λ r. ⌜ r ≤ length (now (out .exit)) ⌝ }
 {
-    let checked = sheet::check(sheet);
-    match checked {
-        Checked::Refused(_) => 0,
-        Checked::Accepted(_, _, count) => {
-            if count <= i {
-                return 0;
-            }
-            let b = objectives(sheet)[i];
-            let mut store = [0u64; 1024];
-            let mut witness = [0u8; 64];
-            let reply = query(sheet, complement(b), 1000000, &mut store, &mut witness);
-            put_line(i, b, reply, out)
-        }
-    }
+    let n = word_at(sheet, 0) as usize;
+    let clauses = word_at(sheet, 4) as usize;
+    let b = objectives(sheet)[i];
+    let mut store = [0u64; 1024];
+    let mut witness = [0u8; 64];
+    let reply = ask(
+        sheet,
+        &order[..n],
+        &plains[..clauses],
+        &negated[..clauses],
+        complement(b),
+        1000000,
+        &mut store,
+        &mut witness,
+    );
+    put_line(i, b, reply, out)
 }
