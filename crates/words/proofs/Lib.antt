@@ -4,3 +4,5 @@ pub mod Lists
 pub mod Members
 pub mod Bits
 pub mod Containment
+pub mod Steady
+pub mod Alike
