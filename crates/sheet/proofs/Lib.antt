@@ -11,3 +11,4 @@ pub mod Atoms
 pub mod EachOnce
 pub mod Answered
 pub mod WorkedSheets
+pub mod Alike
