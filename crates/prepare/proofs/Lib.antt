@@ -2,3 +2,4 @@
 pub mod SetLaws
 pub mod OrderLaws
 pub mod Preparing
+pub mod Alike

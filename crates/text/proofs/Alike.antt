@@ -1,4 +1,5 @@
--- The contract of each public function determines where its text ends, and the buffer. Assumes nothing.
+-- The contract of each public function determines where its text ends, and the buffer afterwards. Assumes nothing.
+use mathlib.Core.Path.{sym, _∙_}
 use Rattle.text.proofs.put.Kinds as put-kinds
 use Rattle.text.proofs.put.Reads as put
 use Rattle.text.proofs.put_decimal.Kinds as decimal-kinds
@@ -7,5 +8,11 @@ use Rattle.text.proofs.put_signed.Kinds as signed-kinds
 use Rattle.text.proofs.put_signed.Reads as signed
 use Rattle.words.proofs.Steady.{Determines}
 
-put-alike : Determines 2 put-kinds.ps put-kinds.r put.Pre put.Post (λ κs x s. (x, s .1 .1 .0 .now))
-put-alike κs a good pre x y s t p q = cc
+put-alike : Determines 2 put-kinds.ps put-kinds.r put.Pre put.Post (λ κs x. x)
+put-alike κs a good pre x y v w p q = (p .ends ∙ sym (q .ends), λ i. (tt, (tt, ((p .holds ∙ sym (q .holds)) i, tt))))
+
+put-decimal-alike : Determines 1 decimal-kinds.ps decimal-kinds.r decimal.Pre decimal.Post (λ κs x. x)
+put-decimal-alike κs a good pre x y v w p q = (p .ends ∙ sym (q .ends), λ i. (tt, (tt, ((p .holds ∙ sym (q .holds)) i, tt))))
+
+put-signed-alike : Determines 1 signed-kinds.ps signed-kinds.r signed.Pre signed.Post (λ κs x. x)
+put-signed-alike κs a good pre x y v w p q = (p .ends ∙ sym (q .ends), λ i. (tt, (tt, (tt, ((p .holds ∙ sym (q .holds)) i, tt)))))

@@ -1,0 +1,25 @@
+-- The contract of each public function determines its result and what it fills. Assumes nothing.
+use mathlib.Core.Path.{refl, sym, _∙_}
+use Rattle.prepare.proofs.clauses.clauses_into.Kinds as clauses-kinds
+use Rattle.prepare.proofs.clauses.clauses_into.Reads as clauses
+use Rattle.prepare.proofs.order.branch_order.Kinds as branch-kinds
+use Rattle.prepare.proofs.order.branch_order.Reads as branch
+use Rattle.prepare.proofs.order.objectives.Kinds as objectives-kinds
+use Rattle.prepare.proofs.order.objectives.Reads as objectives
+use Rattle.prepare.proofs.prepare.Kinds as prepare-kinds
+use Rattle.prepare.proofs.prepare.Reads as prepare
+use Rattle.words.proofs.Steady.{Determines}
+
+clauses-into-alike : Determines 3 clauses-kinds.ps clauses-kinds.r clauses.Pre clauses.Post (λ κs x. x)
+clauses-into-alike κs a good pre x y v w p q = (refl, λ i. (tt, ((p .0 ∙ sym (q .0)) i, ((p .1 ∙ sym (q .1)) i, tt))))
+
+-- of the slice its bytes
+objectives-alike : Determines 1 objectives-kinds.ps objectives-kinds.r objectives.Pre objectives.Post (λ κs x. x .now)
+objectives-alike κs a good pre x y v w p q = (p ∙ sym q, refl)
+
+branch-order-alike : Determines 2 branch-kinds.ps branch-kinds.r branch.Pre branch.Post (λ κs x. x)
+branch-order-alike κs a good pre x y v w p q = (refl, λ i. (tt, ((p ∙ sym q) i, tt)))
+
+prepare-alike : Determines 4 prepare-kinds.ps prepare-kinds.r prepare.Pre prepare.Post (λ κs x. x)
+prepare-alike κs a good pre x y v w p q =
+    (p .0 ∙ sym (q .0), λ i. (tt, ((p .1 .0 ∙ sym (q .1 .0)) i, ((p .1 .1 .0 ∙ sym (q .1 .1 .0)) i, ((p .1 .1 .1 ∙ sym (q .1 .1 .1)) i, tt)))))
