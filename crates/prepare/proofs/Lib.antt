@@ -3,3 +3,4 @@ pub mod SetLaws
 pub mod OrderLaws
 pub mod Preparing
 pub mod Alike
+pub mod Standing
