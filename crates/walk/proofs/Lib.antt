@@ -3,3 +3,4 @@ pub mod Sets
 pub mod Parts
 pub mod Exits
 pub mod Judging
+pub mod Alike
