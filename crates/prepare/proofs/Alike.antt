@@ -1,6 +1,6 @@
 -- The contract of each public function determines its result and what it fills. Assumes nothing.
 use mathlib.Core.Path.{refl, sym, _∙_}
-use Rattle.prepare.proofs.Standing.{standing}
+use Rattle.prepare.proofs.Standing.{fitting, standing}
 use Rattle.prepare.proofs.clauses.clauses_into.Kinds as clauses-kinds
 use Rattle.prepare.proofs.clauses.clauses_into.Reads as clauses
 use Rattle.prepare.proofs.clauses.with_literal.Kinds as with-literal-kinds
@@ -27,8 +27,6 @@ prepare-alike : Determines 4 prepare-kinds.ps prepare-kinds.r prepare.Pre prepar
 prepare-alike κs a good pre x y v w p q =
     (p .0 ∙ sym (q .0), λ i. (tt, ((p .1 .0 ∙ sym (q .1 .0)) i, ((p .1 .1 .0 ∙ sym (q .1 .1 .0)) i, ((p .1 .1 .1 ∙ sym (q .1 .1 .1)) i, tt)))))
 
--- the set that is given stands for some literals, as its words are of 64 bits
+-- the set that is given stands for some literals
 with-literal-alike : Determines 0 with-literal-kinds.ps with-literal-kinds.r with-literal.Pre with-literal.Post (λ κs x. x)
-with-literal-alike κs a good pre x y v w p q =
-    let u = standing (a .0) (good .0 .1 .1 .0 .1) (good .0 .1 .1 .1 .0 .1) in
-    (p (u .0) (u .2) ∙ sym (q (u .0) (u .2)), refl)
+with-literal-alike κs a good pre x y v w p q = let u = standing (a .0) (fitting (a .0) (good .0)) in (p (u .0) (u .2) ∙ sym (q (u .0) (u .2)), refl)

@@ -10,6 +10,10 @@ use native.Mathlib.Omega.{arith}
 use lib.Dec.{eqb}
 use lib.ListN.{length}
 use borrow.Author.Tests.{eq-eqb, eqb-true}
+use denote.Laws.{Is}
+use denote.Struct.Laws.{val}
+use Rattle.prepare.proofs.clauses.Literals.Laws.{the-laws}
+use Rattle.prepare.proofs.clauses.Literals.{the-type, the-row}
 use Rattle.prepare.specs.Carried.{negated, setsOf, Placed, Clauses}
 use Rattle.prepare.specs.declared.clauses.Literals.{Literals}
 use Rattle.sheet.specs.Literals.{Lit, pos, neg, atom, plains}
@@ -68,12 +72,20 @@ kind-placed f is w l m =
 
 -- ---- what words stand for
 
-pub standing : (w : Literals) → w .plains < 2 ^ 64 → w .negated < 2 ^ 64 → (ls : List Lit) × Placed ls × (w ≡ setsOf ls)
-standing w p n =
+-- both words have 64 bits
+abbrev pub Fitting : Literals → Type 0
+Fitting w = (w .plains < 2 ^ 64) × (w .negated < 2 ^ 64)
+
+-- as those of every argument have
+pub fitting : (w : Literals) → Is the-row w (val the-type the-laws w ∷ []) → Fitting w
+fitting w is = let words = is .1 .1 in (words .0 .1, words .1 .0 .1)
+
+pub standing : (w : Literals) → Fitting w → (ls : List Lit) × Placed ls × (w ≡ setsOf ls)
+standing w fits =
     let is = positions (w .plains) in
     let js = positions (w .negated) in
-    let plain : plains (literalsAt is js) ≡ w .plains = plains-are is js ∙ set-of-positions (w .plains) p in
-    let other : negated (literalsAt is js) ≡ w .negated = negated-are is js ∙ set-of-positions (w .negated) n in
+    let plain : plains (literalsAt is js) ≡ w .plains = plains-are is js ∙ set-of-positions (w .plains) (fits .0) in
+    let other : negated (literalsAt is js) ≡ w .negated = negated-are is js ∙ set-of-positions (w .negated) (fits .1) in
     (
       literalsAt is js,
       λ l m. ⊎-elim (kind-placed posAt (λ i. refl) (w .plains) l) (kind-placed negAt (λ i. refl) (w .negated) l) (append-cases (map posAt is) m),
@@ -85,11 +97,11 @@ abbrev pub Words : List ℕ → Type 0
 Words ws = (w : ℕ) → Mem w ws → w < 2 ^ 64
 
 pub standing-clauses : (ps ns : List ℕ) → length ps ≡ length ns → Words ps → Words ns → (cs : List (List Lit)) × Clauses cs ps ns
-standing-clauses [] [] e p n = ([], record { placed = λ c m. absurd (not-nil m); plain = refl; other = refl })
-standing-clauses [] (y ∷ ns) e p n = absurd (omega arith)
-standing-clauses (x ∷ ps) [] e p n = absurd (omega arith)
-standing-clauses (x ∷ ps) (y ∷ ns) e p n =
-    let c = standing (record { plains = x; negated = y }) (p x (head refl)) (n y (head refl)) in
+standing-clauses [] [] even p n = ([], record { placed = λ c m. absurd (not-nil m); plain = refl; other = refl })
+standing-clauses [] (y ∷ ns) even p n = absurd (omega arith)
+standing-clauses (x ∷ ps) [] even p n = absurd (omega arith)
+standing-clauses (x ∷ ps) (y ∷ ns) even p n =
+    let c = standing (record { plains = x; negated = y }) (p x (head refl), n y (head refl)) in
     let u = standing-clauses ps ns (omega arith) (λ w m. p w (tail m)) (λ w m. n w (tail m)) in
     (
       c .0 ∷ u .0,

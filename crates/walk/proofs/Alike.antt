@@ -37,26 +37,15 @@ complement-twice [] = refl
 complement-twice (pos a ∷ ls) = ap (λ (l : List Lit). pos a ∷ l) (complement-twice ls)
 complement-twice (neg a ∷ ls) = ap (λ (l : List Lit). neg a ∷ l) (complement-twice ls)
 
--- the conditions are the complements of the ban's literals
-stands : (ps ns : List ℕ) (ban node : Literals) → length ps ≡ length ns → Words ps → Words ns
-    → ban .plains < 2 ^ 64 → ban .negated < 2 ^ 64 → node .plains < 2 ^ 64 → node .negated < 2 ^ 64
-    → (cs : List (List Lit)) × (us : List Lit) × (w : List Lit) × Stand cs us w ps ns ban node
-stands ps ns ban node even p n bp bn np nn =
-    let c = standing-clauses ps ns even p n in
-    let b = standing ban bp bn in
-    let w = standing node np nn in
-    (
-      c .0,
-      map complement (b .0),
-      w .0,
-      record {
-        clauses = c .1;
-        banned = b .2 ∙ ap setsOf (sym (complement-twice (b .0)));
-        conditions = λ l m. let u = of-map complement (b .0) m in subst (λ (x : Lit). (1 ≤ atom x) × (atom x ≤ 64)) (u .2) (complement-placed (u .0) (b .1 (u .0) (u .1)));
-        made = w .2;
-        decided = w .1;
-      },
-    )
+-- two values that are told alike, whatever the words stand for, are equal: the words stand for something, and the conditions for the complements of
+-- the ban's literals
+stood : {A : Type 0} {x y : A} (f : List (List Lit) → List Lit → List Lit → A) (ps ns : List ℕ) (ban node : Literals)
+    → length ps ≡ length ns → Words ps → Words ns → Fitting ban → Fitting node
+    → ((cs : List (List Lit)) (us w : List Lit) → Stand cs us w ps ns ban node → x ≡ f cs us w)
+    → ((cs : List (List Lit)) (us w : List Lit) → Stand cs us w ps ns ban node → y ≡ f cs us w) → x ≡ y
+stood f ps ns ban node even p n b d told-x told-y = told-x cs us w st ∙ sym (told-y cs us w st)
+  where
+    c = standing-clauses ps ns even p n
 
 -- that the lent words are of 64 bits goes without saying in the code, and is a premise here: of what stands in a slice an argument says nothing
 closed-alike : Determines 2 closed-kinds.ps closed-kinds.r (λ κs a. closed.Pre κs a × Words (a .0 .now) × Words (a .1 .0 .now)) closed.Post (λ κs x. x)
@@ -65,3 +54,24 @@ closed-alike κs a good pre x y v w p q =
     let node = good .1 .1 .1 .0 .1 .1 in
     let st = stands (a .0 .now) (a .1 .0 .now) (a .1 .1 .0) (a .1 .1 .1 .0) (pre .0) (pre .1) (pre .2) (ban .0 .1) (ban .1 .0 .1) (node .0 .1) (node .1 .0 .1) in
     (p (st .0) (st .1) (st .2) (st .3) ∙ sym (q (st .0) (st .1) (st .2) (st .3)), refl)
+
+-- ---- a test by what is told of it
+
+untold : Run ℕ Stop → Tried
+untold (on n) = Missed n
+untold (off n (found p)) = Found n p
+untold (off n spent) = Spent n
+
+untold-told : (t : Tried) → untold (told t) ≡ t
+untold-told (Missed n) = refl
+untold-told (Found n p) = refl
+untold-told (Spent n) = refl
+
+-- its words as those of `closed`
+seek-alike : Determines 4 seek-kinds.ps seek-kinds.r (λ κs a. seek.Pre κs a × Words (a .1 .1 .1 .0 .now) × Words (a .1 .1 .1 .1 .0 .now)) seek.Post (λ κs x. x)
+seek-alike κs a good pre x y v w p q =
+    let l = a .1 .1 .1 in
+    let ban = good .1 .1 .1 .1 .1 .0 .1 .1 in
+    let node = good .1 .1 .1 .1 .1 .1 .1 .1 .0 .1 .1 in
+    let st = stands (l .0 .now) (l .1 .0 .now) (l .1 .1 .0) (l .1 .1 .1 .1 .1 .0) (pre .0 .even) (pre .1) (pre .2) (ban .0 .1) (ban .1 .0 .1) (node .0 .1) (node .1 .0 .1) in
+    (sym (untold-told x) ∙ ap untold (p .0 (st .0) (st .1) (st .2) (st .3) ∙ sym (q .0 (st .0) (st .1) (st .2) (st .3))) ∙ untold-told y, refl)
