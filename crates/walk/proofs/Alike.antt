@@ -1,12 +1,13 @@
 -- The contract of each public function that asks of a node or a model, and that of the test, determines its result. Where it speaks of whatever the
 -- words stand for, it is one that they do stand for. Assumes nothing.
 use Prim.Native.Nat.{ℕ, _^_, _≤_, _<_}
-use mathlib.Core.List.{List, [], _∷_, map, Memᴰ·of-map as of-map}
+use mathlib.Core.List.{List, [], _∷_, _++_, map, Memᴰ·of-map as of-map}
 use mathlib.Core.Path.{_≡_, refl, sym, ap, _∙_, subst}
 use lib.ListN.{length}
-use Rattle.prepare.proofs.Standing.{Words, standing, standing-clauses}
+use Rattle.prepare.proofs.Standing.{Fitting, fitting, Words, standing, standing-clauses}
 use Rattle.prepare.specs.Carried.{setsOf, Placed}
 use Rattle.prepare.specs.declared.clauses.Literals.{Literals}
+use Rattle.search.specs.Grown.{falsified, unit}
 use Rattle.search.specs.Search.{Stop, found, spent}
 use Rattle.search.specs.Tree.{Run, on, off}
 use Rattle.sheet.proofs.LiteralBytes.{complement-placed}
@@ -37,41 +38,49 @@ complement-twice [] = refl
 complement-twice (pos a ∷ ls) = ap (λ (l : List Lit). pos a ∷ l) (complement-twice ls)
 complement-twice (neg a ∷ ls) = ap (λ (l : List Lit). neg a ∷ l) (complement-twice ls)
 
--- two values that are told alike, whatever the words stand for, are equal: the words stand for something, and the conditions for the complements of
--- the ban's literals
+-- two values that tell the same, whatever the words stand for, are equal: there is something that they stand for
 stood : {A : Type 0} {x y : A} (f : List (List Lit) → List Lit → List Lit → A) (ps ns : List ℕ) (ban node : Literals)
     → length ps ≡ length ns → Words ps → Words ns → Fitting ban → Fitting node
     → ((cs : List (List Lit)) (us w : List Lit) → Stand cs us w ps ns ban node → x ≡ f cs us w)
     → ((cs : List (List Lit)) (us w : List Lit) → Stand cs us w ps ns ban node → y ≡ f cs us w) → x ≡ y
-stood f ps ns ban node even p n b d told-x told-y = told-x cs us w st ∙ sym (told-y cs us w st)
-  where
-    c = standing-clauses ps ns even p n
+stood f ps ns ban node even p n fits-ban fits-node tells-x tells-y =
+    let c = standing-clauses ps ns even p n in
+    let b = standing ban fits-ban in
+    let w = standing node fits-node in
+    let us = map complement (b .0) in
+    let st : Stand (c .0) us (w .0) ps ns ban node = record {
+      clauses = c .1;
+      banned = b .2 ∙ ap setsOf (sym (complement-twice (b .0)));
+      conditions = λ l m. let u = of-map complement (b .0) m in subst (λ (x : Lit). (1 ≤ atom x) × (atom x ≤ 64)) (u .2) (complement-placed (u .0) (b .1 (u .0) (u .1)));
+      made = w .2;
+      decided = w .1;
+    } in
+    tells-x (c .0) us (w .0) st ∙ sym (tells-y (c .0) us (w .0) st)
 
--- that the lent words are of 64 bits goes without saying in the code, and is a premise here: of what stands in a slice an argument says nothing
+-- that the lent words have 64 bits is a premise: a slice is an argument by its address and its contents, and of those only the length is told
 closed-alike : Determines 2 closed-kinds.ps closed-kinds.r (λ κs a. closed.Pre κs a × Words (a .0 .now) × Words (a .1 .0 .now)) closed.Post (λ κs x. x)
 closed-alike κs a good pre x y v w p q =
-    let ban = good .1 .1 .0 .1 .1 in
-    let node = good .1 .1 .1 .0 .1 .1 in
-    let st = stands (a .0 .now) (a .1 .0 .now) (a .1 .1 .0) (a .1 .1 .1 .0) (pre .0) (pre .1) (pre .2) (ban .0 .1) (ban .1 .0 .1) (node .0 .1) (node .1 .0 .1) in
-    (p (st .0) (st .1) (st .2) (st .3) ∙ sym (q (st .0) (st .1) (st .2) (st .3)), refl)
+    (stood (λ cs us w. falsified (map unit us ++ cs) w) _ _ _ _ (pre .0) (pre .1) (pre .2) (fitting _ (good .1 .1 .0)) (fitting _ (good .1 .1 .1 .0)) p q, refl)
 
--- ---- a test by what is told of it
+-- ---- the test
 
-untold : Run ℕ Stop → Tried
+abbrev untold : Run ℕ Stop → Tried
 untold (on n) = Missed n
 untold (off n (found p)) = Found n p
 untold (off n spent) = Spent n
 
+-- a test is known by what is told of it
 untold-told : (t : Tried) → untold (told t) ≡ t
 untold-told (Missed n) = refl
 untold-told (Found n p) = refl
 untold-told (Spent n) = refl
 
--- its words as those of `closed`
+-- with the premise of `closed`
 seek-alike : Determines 4 seek-kinds.ps seek-kinds.r (λ κs a. seek.Pre κs a × Words (a .1 .1 .1 .0 .now) × Words (a .1 .1 .1 .1 .0 .now)) seek.Post (λ κs x. x)
 seek-alike κs a good pre x y v w p q =
-    let l = a .1 .1 .1 in
-    let ban = good .1 .1 .1 .1 .1 .0 .1 .1 in
-    let node = good .1 .1 .1 .1 .1 .1 .1 .1 .0 .1 .1 in
-    let st = stands (l .0 .now) (l .1 .0 .now) (l .1 .1 .0) (l .1 .1 .1 .1 .1 .0) (pre .0 .even) (pre .1) (pre .2) (ban .0 .1) (ban .1 .0 .1) (node .0 .1) (node .1 .0 .1) in
-    (sym (untold-told x) ∙ ap untold (p .0 (st .0) (st .1) (st .2) (st .3) ∙ sym (q .0 (st .0) (st .1) (st .2) (st .3))) ∙ untold-told y, refl)
+    (
+      sym (untold-told x)
+          ∙ ap untold (stood _ _ _ _ _ (pre .0 .even) (pre .1) (pre .2) (fitting _ (good .1 .1 .1 .1 .1 .0)) (fitting _ (good .1 .1 .1 .1 .1 .1 .1 .1 .0)) (p .0) (q .0))
+          ∙ untold-told y,
+      refl,
+    )
