@@ -1,13 +1,12 @@
 -- The contract of each public function that asks of a node or a model, and that of the test, determines its result. Where it speaks of whatever the
 -- words stand for, it is one that they do stand for. Assumes nothing.
 use Prim.Native.Nat.{ℕ, _^_, _≤_, _<_}
-use mathlib.Core.List.{List, [], _∷_, _++_, map, Memᴰ·of-map as of-map}
+use mathlib.Core.List.{List, [], _∷_, map, Memᴰ·of-map as of-map}
 use mathlib.Core.Path.{_≡_, refl, sym, ap, _∙_, subst}
 use lib.ListN.{length}
 use Rattle.prepare.proofs.Standing.{Fitting, fitting, Words, standing, standing-clauses}
 use Rattle.prepare.specs.Carried.{setsOf, Placed}
 use Rattle.prepare.specs.declared.clauses.Literals.{Literals}
-use Rattle.search.specs.Grown.{falsified, unit}
 use Rattle.search.specs.Search.{Stop, found, spent}
 use Rattle.search.specs.Tree.{Run, on, off}
 use Rattle.sheet.proofs.LiteralBytes.{complement-placed}
@@ -39,11 +38,11 @@ complement-twice (pos a ∷ ls) = ap (λ (l : List Lit). pos a ∷ l) (complemen
 complement-twice (neg a ∷ ls) = ap (λ (l : List Lit). neg a ∷ l) (complement-twice ls)
 
 -- two values that tell the same, whatever the words stand for, are equal: there is something that they stand for
-stood : {A : Type 0} {x y : A} (f : List (List Lit) → List Lit → List Lit → A) (ps ns : List ℕ) (ban node : Literals)
+stood : {A : Type 0} {x y : A} {f : List (List Lit) → List Lit → List Lit → A} {ps ns : List ℕ} {ban node : Literals}
     → length ps ≡ length ns → Words ps → Words ns → Fitting ban → Fitting node
     → ((cs : List (List Lit)) (us w : List Lit) → Stand cs us w ps ns ban node → x ≡ f cs us w)
     → ((cs : List (List Lit)) (us w : List Lit) → Stand cs us w ps ns ban node → y ≡ f cs us w) → x ≡ y
-stood f ps ns ban node even p n fits-ban fits-node tells-x tells-y =
+stood {ps = ps} {ns = ns} {ban = ban} {node = node} even p n fits-ban fits-node tells-x tells-y =
     let c = standing-clauses ps ns even p n in
     let b = standing ban fits-ban in
     let w = standing node fits-node in
@@ -60,7 +59,7 @@ stood f ps ns ban node even p n fits-ban fits-node tells-x tells-y =
 -- that the lent words have 64 bits is a premise: a slice is an argument by its address and its contents, and of those only the length is told
 closed-alike : Determines 2 closed-kinds.ps closed-kinds.r (λ κs a. closed.Pre κs a × Words (a .0 .now) × Words (a .1 .0 .now)) closed.Post (λ κs x. x)
 closed-alike κs a good pre x y v w p q =
-    (stood (λ cs us w. falsified (map unit us ++ cs) w) _ _ _ _ (pre .0) (pre .1) (pre .2) (fitting _ (good .1 .1 .0)) (fitting _ (good .1 .1 .1 .0)) p q, refl)
+    (stood (pre .0) (pre .1) (pre .2) (fitting _ (good .1 .1 .0)) (fitting _ (good .1 .1 .1 .0)) p q, refl)
 
 -- ---- the test
 
@@ -80,7 +79,7 @@ seek-alike : Determines 4 seek-kinds.ps seek-kinds.r (λ κs a. seek.Pre κs a �
 seek-alike κs a good pre x y v w p q =
     (
       sym (untold-told x)
-          ∙ ap untold (stood _ _ _ _ _ (pre .0 .even) (pre .1) (pre .2) (fitting _ (good .1 .1 .1 .1 .1 .0)) (fitting _ (good .1 .1 .1 .1 .1 .1 .1 .1 .0)) (p .0) (q .0))
+          ∙ ap untold (stood (pre .0 .even) (pre .1) (pre .2) (fitting _ (good .1 .1 .1 .1 .1 .0)) (fitting _ (good .1 .1 .1 .1 .1 .1 .1 .1 .0)) (p .0) (q .0))
           ∙ untold-told y,
       refl,
     )
