@@ -1,7 +1,7 @@
--- Words stand for literals: every 64-bit word is the set of its positions, so any two words are the two sets of some literals of the atoms 1 to 64,
--- and two lists of words those of some clauses. What a contract says "whatever the words stand for" is therefore never said of nothing. Assumes nothing.
-use Prim.Native.Nat.{ℕ, suc, _-_, _^_, _≤_, _<_}
-use mathlib.Core.Bool.{true, false, false≢true}
+-- What words stand for: every 64-bit word is the set of its positions, so two words are the sets of some literals of the atoms 1 to 64, and two
+-- lists of words those of some clauses. So a contract that speaks of whatever its words stand for does speak of something. Assumes nothing.
+use Prim.Native.Nat.{ℕ, suc, _-_, _^_, _<_}
+use mathlib.Core.Bool.{true, false≢true}
 use mathlib.Core.List.{List, [], _∷_, _++_, map, List·Memᴰ as Mem, List·Memᴰ·head as head, List·Memᴰ·tail as tail, List·Memᴰ·not-nil as not-nil, List·Memᴰ·cases-cons as cases-cons, List·Memᴰ·append-cases as append-cases, Memᴰ·of-map as of-map}
 use mathlib.Core.Logic.{⊎-elim}
 use mathlib.Core.Path.{_≡_, refl, sym, ap, ap₂, _∙_, subst}
@@ -85,8 +85,7 @@ standing w fits =
     let is = positions (w .plains) in
     let js = positions (w .negated) in
     let plain : plains (literalsAt is js) ≡ w .plains = plains-are is js ∙ set-of-positions (w .plains) (fits .0) in
-    let other : negated (literalsAt is js) ≡ w .negated = negated-are is js ∙ set-of-positions (w .negated) (fits .1) in
-    (
+    let other : negated (literalsAt is js) ≡ w .negated = negated-are is js ∙ set-of-positions (w .negated) (fits .1) in (
       literalsAt is js,
       λ l m. ⊎-elim (kind-placed posAt (λ i. refl) (w .plains) l) (kind-placed negAt (λ i. refl) (w .negated) l) (append-cases (map posAt is) m),
       λ i. record { plains = sym plain i; negated = sym other i },
@@ -102,8 +101,7 @@ standing-clauses [] (y ∷ ns) even p n = absurd (omega arith)
 standing-clauses (x ∷ ps) [] even p n = absurd (omega arith)
 standing-clauses (x ∷ ps) (y ∷ ns) even p n =
     let c = standing (record { plains = x; negated = y }) (p x (head refl), n y (head refl)) in
-    let u = standing-clauses ps ns (omega arith) (λ w m. p w (tail m)) (λ w m. n w (tail m)) in
-    (
+    let u = standing-clauses ps ns (omega arith) (λ w m. p w (tail m)) (λ w m. n w (tail m)) in (
       c .0 ∷ u .0,
       record {
         placed = λ d m. ⊎-elim (λ e. subst Placed (sym e) (c .1)) (u .1 .placed d) (cases-cons m);

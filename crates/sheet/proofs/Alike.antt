@@ -17,20 +17,20 @@ use Rattle.sheet.proofs.literal.literal_of.Reads as literal-of
 use Rattle.sheet.specs.Literals.{literal, isLiteral, byteOf}
 use Rattle.words.proofs.Steady.{Determines}
 
-check-alike : Determines 1 check-kinds.ps check-kinds.r check.Pre check.Post (λ κs x. x)
+pub check-alike : Determines check-kinds.ps check-kinds.r check.Pre check.Post (λ κs x. x)
 check-alike κs a good pre x y v w p q = (p ∙ sym q, refl)
 
-literal-of-alike : Determines 0 literal-of-kinds.ps literal-of-kinds.r literal-of.Pre literal-of.Post (λ κs x. x)
+pub literal-of-alike : Determines literal-of-kinds.ps literal-of-kinds.r literal-of.Pre literal-of.Post (λ κs x. x)
 literal-of-alike κs a good pre x y v w p q = (p ∙ sym q, refl)
 
-is-literal-alike : Determines 0 is-literal-kinds.ps is-literal-kinds.r is-literal.Pre is-literal.Post (λ κs x. x)
+pub is-literal-alike : Determines is-literal-kinds.ps is-literal-kinds.r is-literal.Pre is-literal.Post (λ κs x. x)
 is-literal-alike κs a good pre x y v w p q = (p ∙ sym q, refl)
 
-word-at-alike : Determines 1 word-at-kinds.ps word-at-kinds.r word-at.Pre word-at.Post (λ κs x. x)
+pub word-at-alike : Determines word-at-kinds.ps word-at-kinds.r word-at.Pre word-at.Post (λ κs x. x)
 word-at-alike κs a good pre x y v w p q = (p ∙ sym q, refl)
 
 -- each of two literal bytes is the byte of its literal
-complement-alike : Determines 0 complement-kinds.ps complement-kinds.r complement.Pre complement.Post (λ κs x. x)
+pub complement-alike : Determines complement-kinds.ps complement-kinds.r complement.Pre complement.Post (λ κs x. x)
 complement-alike κs a good pre x y v w p q = (sym (the-byte x (p .0)) ∙ ap byteOf (p .1 ∙ sym (q .1)) ∙ the-byte y (q .0), refl)
   where
     the-byte : (b : ℕ) → isLiteral 64 b ≡ true → byteOf (literal b) ≡ b

@@ -1,4 +1,4 @@
--- What the proofs of several functions use, in this crate and above it, and what is proved of the definitions besides.
+-- What the proofs of several functions use, in this crate and above it, and what is proved of the definitions and the contracts besides.
 pub mod Literals
 pub mod LiteralBytes
 pub mod Numbers

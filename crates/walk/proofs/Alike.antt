@@ -1,11 +1,12 @@
--- The contract of each public function that asks of a node or a model, and that of the test, determines its result. Where it speaks of whatever the
--- words stand for, it is one that they do stand for. Assumes nothing.
-use Prim.Native.Nat.{ℕ, _^_, _≤_, _<_}
+-- The contracts of what is asked of a node or a model, and that of the test, determine their results. The last two speak of whatever the words stand
+-- for, so they rest on that the words stand for something; words need not stand for a sheet, and the contracts of the candidate walk, which speak of
+-- one, determine nothing where they do not. Assumes nothing.
+use Prim.Native.Nat.{ℕ, _≤_}
 use mathlib.Core.List.{List, [], _∷_, map, Memᴰ·of-map as of-map}
 use mathlib.Core.Path.{_≡_, refl, sym, ap, _∙_, subst}
 use lib.ListN.{length}
 use Rattle.prepare.proofs.Standing.{Fitting, fitting, Words, standing, standing-clauses}
-use Rattle.prepare.specs.Carried.{setsOf, Placed}
+use Rattle.prepare.specs.Carried.{setsOf}
 use Rattle.prepare.specs.declared.clauses.Literals.{Literals}
 use Rattle.search.specs.Search.{Stop, found, spent}
 use Rattle.search.specs.Tree.{Run, on, off}
@@ -24,10 +25,10 @@ use Rattle.walk.specs.declared.test.Tried.the-variants.{Missed, Found, S
 use Rattle.walk.specs.declared.test.Tried.{Tried}
 use Rattle.words.proofs.Steady.{Determines}
 
-holds-alike : Determines 0 holds-kinds.ps holds-kinds.r holds.Pre holds.Post (λ κs x. x)
+pub holds-alike : Determines holds-kinds.ps holds-kinds.r holds.Pre holds.Post (λ κs x. x)
 holds-alike κs a good pre x y v w p q = (p ∙ sym q, refl)
 
-part-of-alike : Determines 1 part-of-kinds.ps part-of-kinds.r part-of.Pre part-of.Post (λ κs x. x)
+pub part-of-alike : Determines part-of-kinds.ps part-of-kinds.r part-of.Pre part-of.Post (λ κs x. x)
 part-of-alike κs a good pre x y v w p q = (p ∙ sym q, refl)
 
 -- ---- what a node's words stand for
@@ -56,8 +57,8 @@ stood {ps = ps} {ns = ns} {ban = ban} {node = node} even p n fits-ban fits-node 
     } in
     tells-x (c .0) us (w .0) st ∙ sym (tells-y (c .0) us (w .0) st)
 
--- that the lent words have 64 bits is a premise: a slice is an argument by its address and its contents, and of those only the length is told
-closed-alike : Determines 2 closed-kinds.ps closed-kinds.r (λ κs a. closed.Pre κs a × Words (a .0 .now) × Words (a .1 .0 .now)) closed.Post (λ κs x. x)
+-- that the lent words have 64 bits is a premise here: of the contents of a slice, that the argument is of its type tells no more than the length
+pub closed-alike : Determines closed-kinds.ps closed-kinds.r (λ κs a. closed.Pre κs a × Words (a .0 .now) × Words (a .1 .0 .now)) closed.Post (λ κs x. x)
 closed-alike κs a good pre x y v w p q =
     (stood (pre .0) (pre .1) (pre .2) (fitting _ (good .1 .1 .0)) (fitting _ (good .1 .1 .1 .0)) p q, refl)
 
@@ -75,11 +76,10 @@ untold-told (Found n p) = refl
 untold-told (Spent n) = refl
 
 -- with the premise of `closed`
-seek-alike : Determines 4 seek-kinds.ps seek-kinds.r (λ κs a. seek.Pre κs a × Words (a .1 .1 .1 .0 .now) × Words (a .1 .1 .1 .1 .0 .now)) seek.Post (λ κs x. x)
-seek-alike κs a good pre x y v w p q =
-    (
-      sym (untold-told x)
-          ∙ ap untold (stood (pre .0 .even) (pre .1) (pre .2) (fitting _ (good .1 .1 .1 .1 .1 .0)) (fitting _ (good .1 .1 .1 .1 .1 .1 .1 .1 .0)) (p .0) (q .0))
-          ∙ untold-told y,
-      refl,
-    )
+pub seek-alike : Determines seek-kinds.ps seek-kinds.r (λ κs a. seek.Pre κs a × Words (a .1 .1 .1 .0 .now) × Words (a .1 .1 .1 .1 .0 .now)) seek.Post (λ κs x. x)
+seek-alike κs a good pre x y v w p q = (
+  sym (untold-told x)
+      ∙ ap untold (stood (pre .0 .even) (pre .1) (pre .2) (fitting _ (good .1 .1 .1 .1 .1 .0)) (fitting _ (good .1 .1 .1 .1 .1 .1 .1 .1 .0)) (p .0) (q .0))
+      ∙ untold-told y,
+  refl,
+)

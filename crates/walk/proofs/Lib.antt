@@ -1,4 +1,4 @@
--- What the proofs of several functions use.
+-- What the proofs of several functions use, and that contracts leave no choice.
 pub mod Sets
 pub mod Parts
 pub mod Exits

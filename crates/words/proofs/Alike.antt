@@ -10,14 +10,14 @@ use Rattle.words.proofs.within.Reads as within
 use Rattle.words.proofs.strictly_within.Kinds as strictly-kinds
 use Rattle.words.proofs.strictly_within.Reads as strictly
 
-has-alike : Determines 0 has-kinds.ps has-kinds.r has.Pre has.Post (λ κs x. x)
+pub has-alike : Determines has-kinds.ps has-kinds.r has.Pre has.Post (λ κs x. x)
 has-alike κs a good pre x y v w p q = (p ∙ sym q, refl)
 
-adding-alike : Determines 0 adding-kinds.ps adding-kinds.r adding.Pre adding.Post (λ κs x. x)
+pub adding-alike : Determines adding-kinds.ps adding-kinds.r adding.Pre adding.Post (λ κs x. x)
 adding-alike κs a good pre x y v w p q = (p ∙ sym q, refl)
 
-within-alike : Determines 0 within-kinds.ps within-kinds.r within.Pre within.Post (λ κs x. x)
+pub within-alike : Determines within-kinds.ps within-kinds.r within.Pre within.Post (λ κs x. x)
 within-alike κs a good pre x y v w p q = (p ∙ sym q, refl)
 
-strictly-alike : Determines 0 strictly-kinds.ps strictly-kinds.r strictly.Pre strictly.Post (λ κs x. x)
+pub strictly-alike : Determines strictly-kinds.ps strictly-kinds.r strictly.Pre strictly.Post (λ κs x. x)
 strictly-alike κs a good pre x y v w p q = (p ∙ sym q, refl)
