@@ -1,4 +1,4 @@
--- What the proofs of several functions use, in this crate and above it, and what is proved of the definitions besides.
+-- What the proofs of several functions use, in this crate and above it, and what is proved of the definitions and the contracts besides.
 pub mod Literals
 pub mod LiteralBytes
 pub mod Numbers
@@ -11,3 +11,4 @@ pub mod Atoms
 pub mod EachOnce
 pub mod Answered
 pub mod WorkedSheets
+pub mod Alike
