@@ -6,7 +6,7 @@ use mathlib.Core.Path.{_≡_, refl, sym, ap, _∙_}
 use native.Mathlib.Omega.{arith}
 use lib.ListN.{length, take, length-map}
 use lib.Seq.{take-at}
-use Rattle.prepare.specs.Carried.{negated, Placed, Readable, Prepared, Tables, plainTable, negatedTable, orderTable, Filled}
+use Rattle.prepare.specs.Carried.{negated, Placed, Readable, Prepared, Tables, plainTable, negatedTable, orderTable}
 use Rattle.sheet.proofs.Answered.{Sized}
 use Rattle.sheet.proofs.Atoms.{objectives-literals, clauses-valued, valued-placed}
 use Rattle.sheet.proofs.EachOnce.{names-each-once}
@@ -87,9 +87,9 @@ tables {s} {n} {m} restO restP restN ok eo ep eq en em =
     }
 
 -- the same where the sheet was read and answered with its sizes
-pub filled-tables : {s o ps ns : List ℕ} {n m k : ℕ} → Filled s ps ns o → Sized s n m k → Tables s (take n o) (take m ps) (take m ns)
-filled-tables f z =
+pub read-tables : {s o ps ns : List ℕ} {n m k : ℕ} (restO restP restN : List ℕ) → Sized s n m k
+    → ps ≡ plainTable (read s) restP → ns ≡ negatedTable (read s) restN → o ≡ orderTable (read s) restO → Tables s (take n o) (take m ps) (take m ns)
+read-tables restO restP restN z ep eq eo =
     let ok = z .accepted in
-    tables (f .order .0) (f .plain .0) (f .other .0) ok (f .order .1 ∙ ap (λ (v : Reading). orderTable v (f .order .0)) ok)
-    (f .plain .1 ∙ ap (λ (v : Reading). plainTable v (f .plain .0)) ok) (f .other .1 ∙ ap (λ (v : Reading). negatedTable v (f .other .0)) ok)
-    (z .atoms) (z .clauses)
+    tables restO restP restN ok (eo ∙ ap (λ (v : Reading). orderTable v restO) ok) (ep ∙ ap (λ (v : Reading). plainTable v restP) ok)
+    (eq ∙ ap (λ (v : Reading). negatedTable v restN) ok) (z .atoms) (z .clauses)

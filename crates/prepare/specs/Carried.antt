@@ -9,7 +9,7 @@ use Rattle.prepare.specs.declared.clauses.Literals.{Literals}
 use Rattle.prepare.specs.declared.order.Named.{Named}
 use Rattle.sheet.specs.Literals.{Lit, atom, plain, place, plains, literal, isLiteral, byteOf}
 use Rattle.sheet.specs.Order.{names, branch}
-use Rattle.sheet.specs.Reading.{Sheet, Reading, refused, understood, sheetOf, read, Accepted}
+use Rattle.sheet.specs.Reading.{Sheet, Reading, refused, understood, sheetOf, Accepted}
 use Rattle.words.specs.Lists.{any, all, pick, over, Distinct}
 use Rattle.words.specs.Positions.{has, setOf}
 
@@ -75,9 +75,3 @@ negatedTable = tabled (λ x. map negated (x .clauses))
 
 abbrev pub orderTable : Reading → List ℕ → List ℕ
 orderTable = tabled (λ x. map byteOf (branch x))
-
--- the three arrays are as a reading of the sheet leaves them, whatever they held before
-pub record Filled (s ps ns o : List ℕ) : Type 0 where
-  pub plain : (before : List ℕ) × (ps ≡ plainTable (read s) before)
-  pub other : (before : List ℕ) × (ns ≡ negatedTable (read s) before)
-  pub order : (before : List ℕ) × (o ≡ orderTable (read s) before)

@@ -2,16 +2,15 @@
 use Prim.Native.Nat.{ℕ, _<_}
 use mathlib.Core.Bool.{Bool, cond}
 use mathlib.Core.List.{List, []}
-use mathlib.Core.Path.{_≡_, refl, sym, ap}
+use mathlib.Core.Path.{_≡_, sym, ap, _∙_}
 use native.Mathlib.Omega.{arith}
 use borrow.Author.Tests.{ne-eqb, lt-ltb}
 use lib.ListN.{length}
 use Rattle.report.specs.Lines.{field, verdict, line, asked, lineCount, lineAt}
-use Rattle.sheet.proofs.ExactlyOne.{understood-accepted}
 use Rattle.sheet.proofs.Understood.{passed, objectives-counted, objective-bytes-counted}
-use Rattle.sheet.specs.Layout.{byte, objectiveBytes}
+use Rattle.sheet.specs.Layout.{byte, objectiveCount, objectiveBytes}
 use Rattle.sheet.specs.Literals.{literal}
-use Rattle.sheet.specs.Reading.{Reading, refused, understood, read, Accepted}
+use Rattle.sheet.specs.Reading.{read, Accepted}
 use Rattle.text.specs.Text.{letters, decimal}
 
 pub says-yes : {code : ℕ} → code ≡ 1 → letters " yes" ≡ field (verdict code)
@@ -29,22 +28,14 @@ says-code {code} y n = sym (λ i. field (cond (ne-eqb code 1 y i) (letters "yes"
 
 -- ---- the line of an objective that is there
 
-module _ (s : List ℕ) (i : ℕ) (there : i < lineCount (read s)) where
-  -- a refused sheet has no lines
-  pub listed-accepted : Accepted s
-  listed-accepted = go (read s) refl there
-    where
-      go : (v : Reading) → read s ≡ v → i < lineCount v → Accepted s
-      go (refused c) e h = absurd (omega arith)
-      go (understood x) e h = understood-accepted s e
+pub lines-counted : (s : List ℕ) → Accepted s → lineCount (read s) ≡ objectiveCount s
+lines-counted s ok = ap lineCount ok ∙ objectives-counted s (passed s ok .sized)
 
-  pub listed-there : i < length (objectiveBytes s)
-  listed-there =
-      let whole = passed s listed-accepted .sized in
-      omega (arith, there, ap lineCount listed-accepted, objectives-counted s whole, objective-bytes-counted s whole)
+pub listed-there : (s : List ℕ) → Accepted s → (i : ℕ) → i < lineCount (read s) → i < length (objectiveBytes s)
+listed-there s ok i there = omega (arith, lines-counted s ok, objective-bytes-counted s (passed s ok .sized))
 
-  pub a-line : line i (literal (byte (objectiveBytes s) i)) (asked s (literal (byte (objectiveBytes s) i))) ≡ lineAt s i
-  unfolding lineAt
-  a-line =
-      let l = literal (byte (objectiveBytes s) i) in
-      ap (λ (b : Bool). cond b (line i l (asked s l)) []) (sym (lt-ltb i (lineCount (read s)) there))
+pub a-line : (s : List ℕ) (i : ℕ) → i < lineCount (read s) → line i (literal (byte (objectiveBytes s) i)) (asked s (literal (byte (objectiveBytes s) i))) ≡ lineAt s i
+unfolding lineAt
+a-line s i there =
+    let l = literal (byte (objectiveBytes s) i) in
+    ap (λ (b : Bool). cond b (line i l (asked s l)) []) (sym (lt-ltb i (lineCount (read s)) there))

@@ -5,16 +5,16 @@ ghost use mathlib.Core.List.{_++_};
 ghost use Prim.Native.Nat.{_+_, _≤_, _<_};
 ghost use lib.ListN.{length};
 ghost use Rattle.sheet.specs.Literals.{isLiteral, literal, plain, atom};
+ghost use Rattle.sheet.specs.Answers.{checkOf};
 ghost use Rattle.sheet.specs.Reading.{read};
 ghost use Rattle.text.specs.Text.{letters, decimal, signedDecimal, Puts};
-ghost use Rattle.prepare.specs.Carried.{plainTable, negatedTable, orderTable, Filled};
+ghost use Rattle.prepare.specs.Carried.{plainTable, negatedTable, orderTable, Tables};
 ghost use Rattle.report.specs.Lines.{field, newline, heading as headingOf, verdict, counts, line as lineOf, lineCount, lineAt};
 use prepare::order::objectives;
 use prepare::prepare;
 use query::Reply;
 use query::ask;
 use sheet::Checked;
-use sheet::bytes::word_at;
 use sheet::literal::Literal;
 use sheet::literal::complement;
 use sheet::literal::literal_of;
@@ -22,10 +22,10 @@ use text::put;
 use text::put_decimal;
 use text::put_signed;
 
-// The first line of a sheet: how long it is, and how many lines follow.
+// The first line of a sheet: how long it is, and what the check of the sheet answered.
 pub struct Opening {
     pub length: usize,
-    pub lines: usize,
+    pub checked: Checked,
 }
 
 // A number as a field: at most 20 digits behind a blank.
@@ -132,7 +132,7 @@ pub fn heading(
     out: &mut [u8; 128],
 ) -> Opening
     ensures text { λ r. ⌜ Puts (headingOf (read (now (sheet .entry)))) 0 (now (out .entry)) (now (out .exit)) (r .length) ⌝ }
-    ensures lines { λ r. ⌜ r .lines ≡ lineCount (read (now (sheet .entry))) ⌝ }
+    ensures checked { λ r. ⌜ r .checked ≡ checkOf (read (now (sheet .entry))) ⌝ }
     ensures plains { λ r. ⌜ now (plains .exit) ≡ plainTable (read (now (sheet .entry))) (now (plains .entry)) ⌝ }
     ensures negated { λ r. ⌜ now (negated .exit) ≡ negatedTable (read (now (sheet .entry))) (now (negated .entry)) ⌝ }
     ensures order { λ r. ⌜ now (order .exit) ≡ orderTable (read (now (sheet .entry))) (now (order .entry)) ⌝ }
@@ -142,39 +142,37 @@ pub fn heading(
     match checked {
         Checked::Refused(code) => Opening {
             length: put_refusal(code, out),
-            lines: 0,
+            checked,
         },
         Checked::Sizes(atoms, clauses, objectives) => Opening {
             length: put_sizes(atoms as u64, clauses as u64, objectives as u64, out),
-            lines: objectives,
+            checked,
         },
     }
 }
 
-// Puts the line of the objective at position i of a sheet that has been prepared.
+// Puts the line of the objective at position i of a sheet whose tables are ready.
 pub fn line(
     sheet: &[u8],
+    order: &[u8],
     plains: &[u64],
     negated: &[u64],
-    order: &[u8],
     i: usize,
     out: &mut [u8; 128],
 ) -> usize
-    requires { ⌜ Filled (now sheet) (now plains) (now negated) (now order) ⌝ }
+    requires { ⌜ Tables (now sheet) (now order) (now plains) (now negated) ⌝ }
     requires { ⌜ i < lineCount (read (now sheet)) ⌝ }
     ensures text { λ r. ⌜ Puts (lineAt (now (sheet .entry)) i) 0 (now (out .entry)) (now (out .exit)) r ⌝ }
     ensures fits { λ r. ⌜ r ≤ length (now (out .exit)) ⌝ }
 {
-    let n = word_at(sheet, 0) as usize;
-    let clauses = word_at(sheet, 4) as usize;
     let b = objectives(sheet)[i];
     let mut store = [0u64; 1024];
     let mut witness = [0u8; 64];
     let reply = ask(
         sheet,
-        &order[..n],
-        &plains[..clauses],
-        &negated[..clauses],
+        order,
+        plains,
+        negated,
         complement(b),
         1000000,
         &mut store,

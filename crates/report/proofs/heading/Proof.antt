@@ -7,7 +7,7 @@ use borrow.Author.Needs.{needs}
 use lib.ListN.{length}
 use Rattle.report.proofs.heading.Statement.{statement}
 use Rattle.report.proofs.heading.Tie as tie
-use Rattle.report.specs.Lines.{field, newline, heading as headingOf, lineCount}
+use Rattle.report.specs.Lines.{field, newline, heading as headingOf}
 use Rattle.sheet.proofs.Answered.{answered-refused, answered-accepted}
 use Rattle.sheet.proofs.Understood.{passed, atoms-are, clauses-counted, objectives-counted}
 use Rattle.text.proofs.Written.{same-text}
@@ -35,17 +35,19 @@ returns : tie.Need-returns
 returns c =
     let s = c .before .before .before .before .before .before .before .before .before .before in
     let read = c .before .before .before .before .before .prepare .ensures in
-    let e = answered-refused (s .args .sheet .now) (sym (c .before .before .before .checked .given .1) ∙ read .0) in
+    let told = sym (c .before .before .before .checked .given .1) ∙ read .0 in
+    let e = answered-refused (s .args .sheet .now) told in
     let p = c .put-refusal .ensures in
     let room : 128 ≤ length (s .args .out .now) = search needs in
-    (same-text (ap headingOf (sym e)) (p .0), (ap lineCount (sym e), (read .1 .0, (read .1 .1 .0, (read .1 .1 .1, omega (arith, p .1, c .put-refusal .kept .1 .0, room))))))
+    (same-text (ap headingOf (sym e)) (p .0), (told, (read .1 .0, (read .1 .1 .0, (read .1 .1 .1, omega (arith, p .1, c .put-refusal .kept .1 .0, room))))))
 
 returns-2 : tie.Need-returns-2
 returns-2 c =
     let s = c .before .before .before .before .before .before .before .before .before .before in
     let sheet = s .args .sheet .now in
     let read = c .before .before .before .before .before .prepare .ensures in
-    let z = answered-accepted sheet (sym (c .before .before .before .checked2 .given .1) ∙ read .0) in
+    let told = sym (c .before .before .before .checked2 .given .1) ∙ read .0 in
+    let z = answered-accepted sheet told in
     let atoms = z .atoms ∙ sym (atoms-are sheet) in
     let clauses = z .clauses ∙ sym (clauses-counted sheet) in
     let objectives = z .objectives ∙ sym (objectives-counted sheet (passed sheet (z .accepted) .sized)) in
@@ -53,7 +55,7 @@ returns-2 c =
     let p = c .put-sizes .ensures in
     let room : 128 ≤ length (s .args .out .now) = search needs in (
       same-text ((λ i. letters "sheet" ++ field (decimal (atoms i)) ++ field (decimal (clauses i)) ++ field (decimal (objectives i)) ++ newline) ∙ ap headingOf e) (p .0),
-      (objectives ∙ ap lineCount e, (read .1 .0, (read .1 .1 .0, (read .1 .1 .1, omega (arith, p .1, c .put-sizes .kept .1 .1 .1 .0, room))))),
+      (told, (read .1 .0, (read .1 .1 .0, (read .1 .1 .1, omega (arith, p .1, c .put-sizes .kept .1 .1 .1 .0, room))))),
     )
 
 pub heading-spec : {M : Type 1} → statement M
