@@ -1,3 +1,4 @@
 pub mod Texts
 pub mod Worked
 pub mod Meaning
+pub mod Alike
