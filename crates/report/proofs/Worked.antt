@@ -10,7 +10,7 @@ use Rattle.sheet.specs.Layout.{word}
 use Rattle.sheet.specs.Literals.{signed, literal, isLiteral, plains}
 use Rattle.sheet.specs.Order.{taking, branch}
 use Rattle.sheet.specs.Reading.{short, outOfRange, misplaced, badEnds, badLiteral, badObjective, table, read, sheetOf}
-use Rattle.sheet.specs.Worked.{sheetA}
+use Rattle.sheet.proofs.Worked.{sheetA}
 use Rattle.text.specs.Text.{letters, decimal, signedDecimal}
 use Rattle.words.specs.Lists.{below}
 use Rattle.words.specs.Positions.{has, within, strictlyWithin, adding, setOf}

@@ -10,9 +10,8 @@ use Rattle.search.proofs.Actions.{visit-holds, meet-holds, candidate-ho
 use Rattle.search.proofs.Fair.{tops, Fair, Unbeaten, FirstUnbeaten, Tells, Within}
 use Rattle.search.proofs.Past.{Past, past-none, past-map, past-all, past-one, past-next, better-past}
 use Rattle.search.proofs.Picking.{top-in, top-out, each-snoc, Among, among-none, among-snoc, among-length}
-use Rattle.search.proofs.Walking.{Holds, holds-map, walk-holds}
+use Rattle.search.proofs.Walking.{Holds, holds-map, walk-holds, leaves}
 use Rattle.search.specs.Search.{Game, State, Answer, Yes, No, Cut, NoPlace, Stop, spent, found, withTest, test, judge, search, start, answered, ended}
-use Rattle.search.specs.Tree.{leaves}
 use Rattle.words.proofs.Members.{any-out, any-none}
 use Rattle.words.specs.Lists.{any}
 

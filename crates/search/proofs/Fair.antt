@@ -6,9 +6,9 @@ use mathlib.Core.List.{List, [], _∷_, _++_, map, List·Memᴰ as Mem}
 use mathlib.Core.Logic.{_⊎_}
 use mathlib.Core.Path.{_≡_}
 use lib.ListN.{length}
+use Rattle.search.proofs.Walking.{leaves}
 use Rattle.search.specs.Maximal.{distinct, topmost}
 use Rattle.search.specs.Search.{Game, State, Answer, Yes, No, Cut, NoPlace}
-use Rattle.search.specs.Tree.{leaves}
 
 module _ (g : Game) where
   -- no later model's part is better than an earlier one's

@@ -14,9 +14,9 @@ use Rattle.search.proofs.Nodes.{complement-atom, Agrees}
 use Rattle.search.proofs.Preferring.{Sensible}
 use Rattle.search.proofs.ReadingOrder.{leaves-sorted}
 use Rattle.search.proofs.WellFormed.{WellFormed}
+use Rattle.search.proofs.Walking.{leaves}
 use Rattle.search.specs.Grown.{Node, Rule, unit, grow, candidateClauses, testClauses, game}
 use Rattle.search.specs.Models.{holds, satisfies, valuations, models, affirming, denying, Preference, earlier}
-use Rattle.search.specs.Tree.{leaves}
 use Rattle.sheet.specs.Literals.{Lit, complement, atom}
 use Rattle.sheet.specs.Order.{valued, branch}
 use Rattle.sheet.specs.Reading.{Sheet}

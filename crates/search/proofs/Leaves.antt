@@ -6,9 +6,9 @@ use mathlib.Core.Logic.{⊎-elim}
 use mathlib.Core.Path.{_≡_, refl, sym, ap, _∙_, subst}
 use Rattle.search.proofs.Closing.{Closing}
 use Rattle.search.proofs.Nodes.{complement-atom, holds-complement, Agrees, Spread, plains-valued, plains-agrees, one-word}
+use Rattle.search.proofs.Walking.{leaves}
 use Rattle.search.specs.Grown.{Node, grow}
 use Rattle.search.specs.Models.{holds, satisfies, valuations}
-use Rattle.search.specs.Tree.{leaves}
 use Rattle.sheet.proofs.EachOnce.{NamesEachOnce}
 use Rattle.sheet.specs.Literals.{Lit, complement, atom, plains}
 

@@ -6,9 +6,9 @@ use mathlib.Core.Logic.{⊎-elim}
 use mathlib.Core.Path.{_≡_, refl, sym, _∙_, subst}
 use Rattle.search.proofs.Fair.{BestFirst}
 use Rattle.search.proofs.Picking.{each-snoc}
-use Rattle.search.proofs.Walking.{due, leaves-due}
+use Rattle.search.proofs.Walking.{due, leaves-due, leaves}
 use Rattle.search.specs.Search.{Game}
-use Rattle.search.specs.Tree.{Tree, leaves}
+use Rattle.search.specs.Tree.{Tree}
 
 module _ {M : Type 0} where
   -- `rest` is left of `all`, and P holds of what stood before it

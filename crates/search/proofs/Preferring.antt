@@ -4,9 +4,9 @@ use mathlib.Core.Bool.{true, false≢true}
 use mathlib.Core.List.{map, List·Memᴰ as Mem}
 use mathlib.Core.Path.{_≡_, sym, _∙_}
 use lib.ListN.{length}
-use Rattle.search.proofs.Earlier.{first-more}
+use Rattle.search.proofs.Earlier.{before-more}
 use Rattle.search.proofs.Parts.{Keeps, keeps-within, within-keeps}
-use Rattle.search.specs.Models.{holds, part, Preference, containment, before, earlier}
+use Rattle.search.specs.Models.{holds, part, Preference, containment, earlier}
 use Rattle.sheet.specs.Literals.{Lit, pos}
 use Rattle.sheet.specs.Order.{valued}
 use Rattle.sheet.specs.Reading.{Sheet}
@@ -21,7 +21,7 @@ pub record Sensible (p : Preference) (x : Sheet) : Type 0 where
   pub fromThem : (o : Lit) → Mem o (p .kept (x .objectives)) → Mem o (x .objectives)
 
 pub containment-sensible : (x : Sheet) → length (x .objectives) ≤ 64 → Sensible containment x
-unfolding earlier before
+unfolding earlier
 containment-sensible x few =
     record {
       irreflexive = strictly-irreflexive;
@@ -29,7 +29,7 @@ containment-sensible x few =
       comesFirst = λ m u e.
           let os = x .objectives in
           let says = strictly-says (part os m) (part os u) e in
-          first-more (holds u) (holds m) os (map pos (valued x)) (within-keeps os m u few (says .0)) (λ each. false≢true (sym (says .1) ∙ keeps-within os u m each));
+          before-more u m os (map pos (valued x)) (within-keeps os m u few (says .0)) (λ each. false≢true (sym (says .1) ∙ keeps-within os u m each));
       keeps = λ m u e. within-keeps (x .objectives) m u few (strictly-says _ _ e .0);
       fromThem = λ o h. h;
     }

@@ -6,12 +6,13 @@ use mathlib.Core.Logic.{⊎-elim}
 use mathlib.Core.Path.{_≡_, refl, sym, ap, ap₂, _∙_, subst}
 use lib.Dec.{eqb}
 use borrow.Author.Tests.{eqb-true}
+use Rattle.search.proofs.Earlier.{before-same, before-here}
 use Rattle.search.proofs.Entries.{Sorted, sorted-append, sorted-by}
 use Rattle.search.proofs.Leaves.{atomsOf, atoms-child, leaves-closed, leaves-full, leaves-fork, leaf-agrees, spread}
 use Rattle.search.proofs.Nodes.{complement-atom, complement-true, Agrees, decided, Spread}
+use Rattle.search.proofs.Walking.{leaves}
 use Rattle.search.specs.Grown.{Node, grow}
-use Rattle.search.specs.Models.{holds, firstTrue, before, earlier}
-use Rattle.search.specs.Tree.{leaves}
+use Rattle.search.specs.Models.{holds, before, earlier}
 use Rattle.sheet.proofs.BranchLaws.{taking-old, taking-new}
 use Rattle.sheet.proofs.EachOnce.{NamesEachOnce}
 use Rattle.sheet.specs.Literals.{Lit, atom, complement}
@@ -60,18 +61,6 @@ taken-fresh so (l ∷ ls) = go (any (names (atom l)) so) refl (taken-fresh so ls
         ∙ ap (λ (x : List Lit). so ++ x) (sym (fresh-new (map atom so) l ls (sym (among-names (atom l) so) ∙ e)))
 
 -- ---- the full nodes below a node
-
-before-same : (l : Lit) (ls : List Lit) (m u : ℕ) → holds m l ≡ holds u l → before (l ∷ ls) m u ≡ before ls m u
-unfolding before
-before-same l ls m u e = ap (λ (b : Bool). firstTrue (b ∷ map (holds m) ls) (holds u l ∷ map (holds u) ls)) e ∙ go (holds u l)
-  where
-    go : (b : Bool) → firstTrue (b ∷ map (holds m) ls) (b ∷ map (holds u) ls) ≡ before ls m u
-    go true = refl
-    go false = refl
-
-before-here : (l : Lit) (ls : List Lit) (m u : ℕ) → holds m l ≡ true → holds u l ≡ false → before (l ∷ ls) m u ≡ true
-unfolding before
-before-here l ls m u e f = ap₂ (λ (a b : Bool). firstTrue (a ∷ map (holds m) ls) (b ∷ map (holds u) ls)) e f
 
 module _ (atoms : List ℕ) (some : (a : ℕ) → Mem a atoms → 1 ≤ a) (closes : Node → Bool) where
   -- the full nodes below w, where the literals of the order are still to be tried, are in order as far as the literals ls go

@@ -12,11 +12,11 @@ use Rattle.search.proofs.Nodes.{holds-complement}
 use Rattle.search.proofs.Preferring.{Sensible}
 use Rattle.search.proofs.ReadingOrder.{leaves-sorted}
 use Rattle.search.proofs.WellFormed.{WellFormed}
+use Rattle.search.proofs.Walking.{leaves}
 use Rattle.search.specs.Demands.{First}
 use Rattle.search.specs.Grown.{Rule, candidateClauses, game}
 use Rattle.search.specs.Maximal.{maximalParts}
 use Rattle.search.specs.Models.{holds, models, affirming, denying, Preference, Optimal, earlier}
-use Rattle.search.specs.Tree.{leaves}
 use Rattle.sheet.specs.Literals.{Lit, complement, atom}
 use Rattle.sheet.specs.Order.{valued}
 use Rattle.sheet.specs.Reading.{Sheet}

@@ -1,7 +1,7 @@
 -- What holds of a walk follows from what holds of its visits and of what it does at full nodes. Assumes nothing.
-use mathlib.Core.List.{List, _∷_, _++_, append-assoc}
+use mathlib.Core.List.{List, [], _∷_, _++_, append-assoc}
 use mathlib.Core.Path.{_≡_, refl, sym, ap, _∙_}
-use Rattle.search.specs.Tree.{Tree, closed, full, fork, leaves, Run, on, off, then, walk}
+use Rattle.search.specs.Tree.{Tree, closed, full, fork, Run, on, off, then, walk}
 
 module _ {S A : Type 0} where
   -- P holds of the state where the run goes on; where it has ended, Q holds of the state and the reason
@@ -47,6 +47,12 @@ pub walk-keeps : {S A M : Type 0} {P : S → Type 0} {visit : S → Run S A} {ac
     → ((s : S) → P s → Always P (visit s)) → ((m : M) (s : S) → P s → Always P (act m s))
     → (t : Tree M) (s : S) → P s → Always P (walk visit act t s)
 walk-keeps {P = P} visits acts t s = walk-holds {P = λ (i : Unit {0}). P} (λ i. i) (λ m i. i) (λ i. visits) (λ m i. acts m) t tt s
+
+-- the full nodes in the order in which the walk meets them
+abbrev pub leaves : {M : Type 0} → Tree M → List M
+leaves closed = []
+leaves (full m) = m ∷ []
+leaves (fork first second) = leaves first ++ leaves second
 
 -- where only full nodes count, the full nodes are due
 pub leaves-due : {M : Type 0} (t : Tree M) (rest : List M) → due (λ r. r) _∷_ t rest ≡ leaves t ++ rest

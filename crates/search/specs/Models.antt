@@ -1,12 +1,13 @@
 -- Models of a sheet, their parts, which of them are optimal, and the reading order. Quotations are of document 01.
-use Prim.Native.Nat.{ℕ, suc, _-_}
-use mathlib.Core.Bool.{Bool, true, false, not}
+use Prim.Native.Nat.{ℕ, _-_}
+use mathlib.Core.Bool.{Bool, true, false, not, cond, Bool·beq}
 use mathlib.Core.List.{List, [], _∷_, _++_, map, List·Memᴰ as Mem}
 use mathlib.Core.Path.{_≡_}
+use lib.ListN.{length, getD}
 use Rattle.sheet.specs.Literals.{Lit, pos, neg, complement}
 use Rattle.sheet.specs.Order.{valued, readings}
 use Rattle.sheet.specs.Reading.{Sheet}
-use Rattle.words.specs.Lists.{any, all, pick}
+use Rattle.words.specs.Lists.{any, all, pick, below}
 use Rattle.words.specs.Positions.{has, adding, setOf, strictlyWithin}
 
 -- ---- models
@@ -42,14 +43,9 @@ denying x q = affirming x (complement q)
 
 -- ---- parts, and optimal models
 
--- the positions, from i on, of the literals that are true under m
-abbrev pub met : ℕ → ℕ → List Lit → List ℕ
-met m i [] = []
-met m i (o ∷ os) = elim (holds m o) [ true ↦ i ∷ met m (suc i) os | false ↦ met m (suc i) os ]
-
 -- "The part of a model is the set of objective positions whose literal it satisfies."
 unfoldable pub part : List Lit → ℕ → ℕ
-part objectives m = setOf (met m 0 objectives)
+part objectives m = setOf (pick (λ i. holds m (getD objectives i (pos 0))) (below (length objectives)))
 
 -- How parts are compared, `worse p q` where q is the better part, and which of the objectives a test keeps.
 pub record Preference : Type 0 where
@@ -67,18 +63,10 @@ pub record Optimal (p : Preference) (x : Sheet) (m : ℕ) : Type 0 where
 
 -- ---- the reading order
 
--- "at the first that differs", the one with true comes first
-abbrev pub firstTrue : List Bool → List Bool → Bool
-firstTrue [] ys = false
-firstTrue (x ∷ xs) [] = false
-firstTrue (true ∷ xs) (true ∷ ys) = firstTrue xs ys
-firstTrue (true ∷ xs) (false ∷ ys) = true
-firstTrue (false ∷ xs) (true ∷ ys) = false
-firstTrue (false ∷ xs) (false ∷ ys) = firstTrue xs ys
-
--- as far as these literals go
+-- m comes before u as far as these literals go: "at the first that differs, the one with true comes first"
 unfoldable pub before : List Lit → ℕ → ℕ → Bool
-before ls m u = firstTrue (map (holds m) ls) (map (holds u) ls)
+before [] m u = false
+before (l ∷ ls) m u = cond (Bool·beq (holds m l) (holds u l)) (before ls m u) (holds m l)
 
 -- "Of two models, look at objective positions from 0: at the first where satisfaction differs, the satisfying model comes first. If none
 -- differs, look at atoms from 1: at the first that differs, the one with true comes first."

@@ -1,17 +1,10 @@
 -- A defined walk is the walk of a tree. Quotations are of document 01.
-use mathlib.Core.List.{List, [], _∷_, _++_}
 
 -- "closed", "a full node", and "another open node" with its two children; a full node holds what stands there
 pub data Tree (M : Type 0) : Type 0 where
   closed : Tree M
   full : M → Tree M
   fork : Tree M → Tree M → Tree M
-
--- the full nodes in the order in which the walk meets them
-abbrev pub leaves : {M : Type 0} → Tree M → List M
-leaves closed = []
-leaves (full m) = m ∷ []
-leaves (fork first second) = leaves first ++ leaves second
 
 -- a walk goes on with a state, or has ended with a state and a reason
 pub data Run (S A : Type 0) : Type 0 where

@@ -10,5 +10,6 @@ pub mod BranchLaws
 pub mod Atoms
 pub mod EachOnce
 pub mod Answered
+pub mod Worked
 pub mod WorkedSheets
 pub mod Alike

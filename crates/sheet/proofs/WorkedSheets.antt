@@ -7,7 +7,7 @@ use Rattle.sheet.specs.Layout.{word}
 use Rattle.sheet.specs.Literals.{Lit, pos, neg, signed, literal, isLiteral}
 use Rattle.sheet.specs.Order.{taking, branch}
 use Rattle.sheet.specs.Reading.{short, outOfRange, misplaced, badEnds, badLiteral, badObjective, table, Sheet, sheetOf, understood, read}
-use Rattle.sheet.specs.Worked.{sheetA, sheetB, sheetC, sheetD, sheetE, sheetF}
+use Rattle.sheet.proofs.Worked.{sheetA, sheetB, sheetC, sheetD, sheetE, sheetF}
 use Rattle.words.specs.Lists.{below}
 
 abbrev sheet : ℕ → List (List Lit) → List Lit → Sheet

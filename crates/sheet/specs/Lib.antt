@@ -4,4 +4,3 @@ pub mod Reading
 pub mod Answers
 pub mod Order
 pub mod Passed
-pub mod Worked

@@ -1,5 +1,5 @@
 -- Tests over lists, one entry after the other, as a loop goes through them. Assumes nothing.
-use Prim.Native.Nat.{ℕ, zero, suc, _+_, _≤_, _<_}
+use Prim.Native.Nat.{ℕ, zero, suc, _+_, _-_, _≤_, _<_}
 use mathlib.Core.Bool.{Bool, true, false}
 use mathlib.Core.List.{List, [], _∷_, _++_, map, map-append}
 use mathlib.Core.Logic.{⊎-elim}
@@ -47,6 +47,13 @@ getD-below (suc n) i h = ⊎-elim last (λ l. earlier l (getD-below n i l)) (eq-
 
     earlier : i < n → getD (below n) i 0 ≡ i → getD (below n ++ (n ∷ [])) i 0 ≡ i
     earlier l e = List·getD-append (below n) (n ∷ []) 0 i (subst (λ (k : ℕ). i < k) (sym (length-below n)) l) ∙ e
+
+-- from the end back: the number before i, and those from i on
+pub numbers-back : (n i : ℕ) → 0 < i → i ≤ n → drop (i - 1) (below n) ≡ (i - 1) ∷ drop i (below n)
+numbers-back n i some h =
+    let at : i - 1 + 1 ≡ i = omega arith in
+    onward 0 (below n) (i - 1) (subst (λ (k : ℕ). i - 1 < k) (sym (length-below n)) (omega arith))
+    ∙ (λ j. getD-below n (i - 1) (omega arith) j ∷ drop (at j) (below n))
 
 module _ (f : ℕ → Bool) (n i : ℕ) where
   still-below : i < n → i < length (below n)
