@@ -1,7 +1,7 @@
 -- What a walk leaves: the witness byte by byte, and the whole result. Assumes nothing.
 use Prim.Native.Nat.{ℕ, suc, _+_, _-_, _<_}
 use mathlib.Core.Bool.{cond}
-use mathlib.Core.List.{List, [], _∷_, _++_, map}
+use mathlib.Core.List.{List, [], _∷_, _++_}
 use mathlib.Core.Path.{_≡_, refl, sym, ap, _∙_}
 use native.Mathlib.Omega.{arith}
 use lib.ListN.{length, take, drop, set, length-map, take-append-drop}

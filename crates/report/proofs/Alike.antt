@@ -13,9 +13,9 @@ heading-alike κs a good pre x y v w p q =
     let plains = p .1 .1 .0 ∙ sym (q .1 .1 .0) in
     let negated = p .1 .1 .1 .0 ∙ sym (q .1 .1 .1 .0) in
     let order = p .1 .1 .1 .1 .0 ∙ sym (q .1 .1 .1 .1 .0) in
-    let text = p .0 .holds ∙ sym (q .0 .holds) in
+    let text = p .0 .filled ∙ sym (q .0 .filled) in
     (λ i. record { length = end i; checked = checked i }, λ i. (tt, (plains i, (negated i, (order i, (text i, tt))))))
 
 pub line-alike : Determines line-kinds.ps line-kinds.r line.Pre line.Post (λ κs x. x)
 line-alike κs a good pre x y v w p q =
-    (p .0 .ends ∙ sym (q .0 .ends), λ i. (tt, (tt, (tt, (tt, (tt, ((p .0 .holds ∙ sym (q .0 .holds)) i, tt)))))))
+    (p .0 .ends ∙ sym (q .0 .ends), λ i. (tt, (tt, (tt, (tt, (tt, ((p .0 .filled ∙ sym (q .0 .filled)) i, tt)))))))

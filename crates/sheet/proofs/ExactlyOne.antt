@@ -7,7 +7,7 @@ use mathlib.Core.Path.{_≡_, refl, sym, ap, _∙_, subst}
 use Rattle.sheet.specs.Reading.{Row, table, firstOf, Sheet, sheetOf, Reading, refused, understood, read, Accepted}
 
 -- the row applies, and none before it does
-pub record First (rows : List Row) (r : Row) : Type 0 where
+pub record FirstRow (rows : List Row) (r : Row) : Type 0 where
   pub before : List Row
   pub after : List Row
   pub place : rows ≡ before ++ r ∷ after
@@ -16,7 +16,7 @@ pub record First (rows : List Row) (r : Row) : Type 0 where
 
 -- what a table says: the number of its first row that applies; or, where none applies, that the sheet is understood as x
 abbrev pub Says : List Row → Sheet → Reading → Type 0
-Says rows x (refused c) = (r : Row) × First rows r × (r .code ≡ c)
+Says rows x (refused c) = (r : Row) × FirstRow rows r × (r .code ≡ c)
 Says rows x (understood y) = ((r : Row) → Mem r rows → r .applies ≡ false) × (y ≡ x)
 
 -- ---- it says what `firstOf` answers
@@ -54,7 +54,7 @@ first-says (r ∷ rows) x = go (r .applies) refl (first-says rows x)
 
 -- ---- and nothing else
 
-module _ (r : Row) (rows : List Row) {q : Row} (f : First (r ∷ rows) q) where
+module _ (r : Row) (rows : List Row) {q : Row} (f : FirstRow (r ∷ rows) q) where
   -- the first row that applies is the first row, where that applies
   here : r .applies ≡ true → q ≡ r
   here e = go (f .before) (f .place) (f .alone)
@@ -64,10 +64,10 @@ module _ (r : Row) (rows : List Row) {q : Row} (f : First (r ∷ rows) q) where
       go (b ∷ bs) p alone = let same : b ≡ r = cc in absurd (false≢true (sym (alone b (head refl)) ∙ ap (λ (z : Row). z .applies) same ∙ e))
 
   -- and otherwise the first of the others
-  further : r .applies ≡ false → First rows q
+  further : r .applies ≡ false → FirstRow rows q
   further e = go (f .before) (f .place) (f .alone)
     where
-      go : (before : List Row) → r ∷ rows ≡ before ++ q ∷ f .after → ((x : Row) → Mem x before → x .applies ≡ false) → First rows q
+      go : (before : List Row) → r ∷ rows ≡ before ++ q ∷ f .after → ((x : Row) → Mem x before → x .applies ≡ false) → FirstRow rows q
       go [] p alone = let same : r ≡ q = cc in absurd (false≢true (sym e ∙ ap (λ (z : Row). z .applies) same ∙ f .applies))
       go (b ∷ bs) p alone = record { before = bs; after = f .after; place = cc; applies = f .applies; alone = λ x m. alone x (tail m) }
 

@@ -43,19 +43,19 @@ module _ (t : List ℕ) (at : ℕ) (b : List ℕ) where
 pub put-behind : {t u : List ℕ} {at : ℕ} {b b′ b″ : List ℕ} {e e′ : ℕ} → at ≤ length b → Puts t at b b′ e → Puts u e b′ b″ e′ → Puts (t ++ u) at b b″ e′
 put-behind {t} {u} {at} {b} h p q = record {
   ends = q .ends ∙ ap (λ (k : ℕ). k + length u) (p .ends) ∙ add-assoc at (length t) (length u) ∙ ap (λ (k : ℕ). at + k) (sym (length-append t u));
-  holds = q .holds ∙ ap₂ (λ (k : ℕ) (o : List ℕ). written u k o) (p .ends) (p .holds) ∙ written-behind t at b u h;
+  filled = q .filled ∙ ap₂ (λ (k : ℕ) (o : List ℕ). written u k o) (p .ends) (p .filled) ∙ written-behind t at b u h;
 }
 
 pub same-text : {t u : List ℕ} {at : ℕ} {b b′ : List ℕ} {e : ℕ} → t ≡ u → Puts t at b b′ e → Puts u at b b′ e
-same-text {at} {b} same p = record { ends = p .ends ∙ ap (λ (t : List ℕ). at + length t) same; holds = p .holds ∙ ap (λ (t : List ℕ). written t at b) same }
+same-text {at} {b} same p = record { ends = p .ends ∙ ap (λ (t : List ℕ). at + length t) same; filled = p .filled ∙ ap (λ (t : List ℕ). written t at b) same }
 
 -- nothing put is a text put
 pub nothing-put : (at : ℕ) (b : List ℕ) → Puts [] at b b at
-nothing-put at b = record { ends = sym (add-zero at); holds = sym (nothing-written at b) }
+nothing-put at b = record { ends = sym (add-zero at); filled = sym (nothing-written at b) }
 
 -- a byte put behind a text
 pub byte-put : {t : List ℕ} {at : ℕ} {b b′ : List ℕ} {e e′ : ℕ} (v : ℕ) → e < length b → e′ ≡ e + 1 → Puts t at b b′ e → Puts (t ++ (v ∷ [])) at b (set b′ e v) e′
 byte-put {t} {at} {b} v room next p = record {
   ends = omega (arith, next, p .ends, length-append t (v ∷ []));
-  holds = ap₂ (λ (o : List ℕ) (k : ℕ). set o k v) (p .holds) (p .ends) ∙ byte-behind t at b v (omega (arith, p .ends, room));
+  filled = ap₂ (λ (o : List ℕ) (k : ℕ). set o k v) (p .filled) (p .ends) ∙ byte-behind t at b v (omega (arith, p .ends, room));
 }

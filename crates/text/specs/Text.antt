@@ -37,4 +37,4 @@ written text at before = take at before ++ text ++ drop (at + length text) befor
 -- the text was put at a place of the buffer, up to this end
 pub record Puts (text : List ℕ) (at : ℕ) (before after : List ℕ) (end : ℕ) : Type 0 where
   pub ends : end ≡ at + length text
-  pub holds : after ≡ written text at before
+  pub filled : after ≡ written text at before

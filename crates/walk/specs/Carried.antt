@@ -9,7 +9,7 @@ use Rattle.prepare.specs.Carried.{setsOf, Placed, Clauses, Prepared}
 use Rattle.prepare.specs.declared.clauses.Literals.{Literals}
 use Rattle.search.specs.Grown.{falsified, unit, grow, candidateClauses, posed}
 use Rattle.search.specs.Models.{part}
-use Rattle.search.specs.Search.{State, Answer, Yes, No, Cut, NoPlace, Stop, spent, found, visit, visitCandidate, settle, judge, search as searched}
+use Rattle.search.specs.Search.{State, start, Answer, Yes, Cut, NoPlace, Stop, spent, found, visit, visitCandidate, settle, judge, search as searched, answered}
 use Rattle.search.specs.Tree.{Run, on, off, walk}
 use Rattle.sheet.specs.Literals.{Lit, complement, literal}
 use Rattle.sheet.specs.Reading.{Sheet}
@@ -71,18 +71,15 @@ partsIn count store = take count store
 abbrev pub stateOf : Walked → List ℕ → State
 stateOf w store = record { steps = w .steps; tests = w .tests; stored = partsIn (w .stored) store }
 
--- the answer that an ending comes to
-abbrev pub answerOf : Ending → Answer
-answerOf Going = No
-answerOf (Affirmed m) = Yes m
-answerOf Exhausted = Cut
-answerOf Full = NoPlace
-
 abbrev pub endedAs : Ending → State → Run State Answer
 endedAs Going s = on s
 endedAs (Affirmed m) s = off s (Yes m)
 endedAs Exhausted s = off s Cut
 endedAs Full s = off s NoPlace
+
+-- the answer that an ending comes to, whatever the state
+abbrev pub answerOf : Ending → Answer
+answerOf e = answered (endedAs e start)
 
 -- how far the candidate walk is, in the document's terms
 abbrev pub runOf : Walked → List ℕ → Run State Answer

@@ -2,13 +2,13 @@
 use Prim.Native.Nat.{ℕ, zero, suc, _+_, _*_, _/_, _%_, _^_, _≤_, _<_, min, max}
 use mathlib.Core.Bool.{Bool, true, false, cond, _&&_, _||_, false≢true}
 use mathlib.Core.List.{List, [], _∷_}
-use mathlib.Core.Path.{_≡_, refl, sym, ap, _∙_, subst}
+use mathlib.Core.Path.{_≡_, refl, sym, ap, _∙_}
 use native.Mathlib.Nat.{div-one, one-mul, lt-of-lt-of-le, div-eq-of-lt}
 use native.Mathlib.Omega.{arith}
 use lib.Arith.{bin-ind, digits-mod}
-use lib.Bits.{bitAnd, bitOr, and-step, or-step, and-shr, or-shr, or-lt, or-disjoint, shifted-half, shifted-even}
+use lib.Bits.{bitAnd, bitOr, and-step, or-step, and-shr, or-shr, or-disjoint, shifted-half, shifted-even}
 use lib.Dec.{eqb, eqb·suc-suc, eqb·suc-zero, eqb·zero-suc, lit<}
-use lib.Pow.{pow-mono, pow-lt, shl-exact, shr-shr, shr-le}
+use lib.Pow.{pow-mono, shl-exact, shr-shr, shr-le}
 use borrow.Author.Tests.{ne-eqb, eqb-true}
 use Rattle.words.proofs.Bools.{or-true, or-false, and-false}
 use Rattle.words.specs.Lists.{any}
@@ -143,9 +143,6 @@ or-power w i = go (has w i) refl
 
 pub has-adding : (w i j : ℕ) → has (adding w i) j ≡ (has w j || eqb j i)
 has-adding w i j = ap (λ (x : ℕ). has x j) (sym (or-power w i)) ∙ has-or w (2 ^ i) j ∙ ap (λ (b : Bool). has w j || b) (has-power i j)
-
-pub adding-fits : (w i : ℕ) → w < 2 ^ 64 → i < 64 → adding w i < 2 ^ 64
-adding-fits w i h k = subst (λ (x : ℕ). x < 2 ^ 64) (or-power w i) (or-lt 64 w (2 ^ i) h (pow-lt k))
 
 -- the positions of the set of a list are those of the list
 pub has-setOf : (is : List ℕ) (j : ℕ) → has (setOf is) j ≡ any (eqb j) is

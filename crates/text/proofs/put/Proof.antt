@@ -19,7 +19,7 @@ abbrev μ-loop : tie.MeasureT-loop
 μ-loop text at out₀ i₀ out i = length text - i
 
 loop-holds : tie.Need-loop-holds Inv-loop μ-loop
-loop-holds c = let a = c .args in (omega arith, refl, record { ends = refl; holds = sym (nothing-written (a .at) (a .out .now)) })
+loop-holds c = let a = c .args in (omega arith, refl, record { ends = refl; filled = sym (nothing-written (a .at) (a .out .now)) })
 
 shared-slice-read-out : tie.Need-shared-slice-read-out Inv-loop μ-loop
 shared-slice-read-out c = search needs

@@ -1,20 +1,20 @@
 -- `walk::candidates::roam`: by the number of literals of the order still to be tried; each return is a case of the walk of the tree below the node. Assumes nothing.
-use Prim.Native.Nat.{_+_, _-_, _≤_, ℕ, _<_}
+use Prim.Native.Nat.{_+_, _-_, ℕ, _<_}
 use mathlib.Core.Bool.{true, false}
-use mathlib.Core.List.{List, [], _∷_, _++_, map, List·Memᴰ·eq-of-singleton as eq-of-singleton}
-use mathlib.Core.Path.{_≡_, refl, sym, ap, _∙_, subst}
+use mathlib.Core.List.{List, [], _∷_, _++_, map}
+use mathlib.Core.Path.{_≡_, refl, sym, ap, _∙_}
 use native.Mathlib.Omega.{arith}
 use lib.ListN.{length, drop}
 use borrow.Author.Needs.{needs}
 use borrow.Fn.Kinds.{In}
 use borrow.Fn.PlainCycle.{Measures, is, falls, and}
-use Rattle.prepare.specs.Carried.{setsOf, Placed, Prepared}
+use Rattle.prepare.specs.Carried.{setsOf, Prepared}
 use Rattle.search.specs.Grown.{candidateClauses, falsified, grow, posed}
 use Rattle.search.specs.Search.{State, Answer, withSteps, judge, visitCandidate}
 use Rattle.search.specs.Tree.{Run, on, off, walk}
 use Rattle.prepare.proofs.clauses.with_literal.Reads as with-literal-reads
 use Rattle.sheet.specs.Layout.{byte}
-use Rattle.sheet.specs.Literals.{Lit, atom, literal, isLiteral, complement}
+use Rattle.sheet.specs.Literals.{Lit, literal, isLiteral, complement}
 use Rattle.sheet.specs.Reading.{Sheet}
 use Rattle.prepare.specs.declared.clauses.Literals.{Literals}
 use Rattle.sheet.proofs.LiteralBytes.{in-atoms, complement-placed}

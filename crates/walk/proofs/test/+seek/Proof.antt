@@ -8,7 +8,7 @@ use lib.ListN.{length, drop}
 use borrow.Author.Needs.{needs}
 use borrow.Fn.Kinds.{In}
 use borrow.Fn.PlainCycle.{Measures, is, falls, and}
-use Rattle.prepare.specs.Carried.{setsOf, Placed, Clauses}
+use Rattle.prepare.specs.Carried.{setsOf}
 use Rattle.search.specs.Grown.{unit, falsified, grow}
 use Rattle.search.specs.Search.{Stop, spent, visit}
 use Rattle.search.specs.Tree.{Run, on, off}
