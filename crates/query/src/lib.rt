@@ -8,7 +8,7 @@ ghost use Rattle.words.specs.Positions.{has};
 ghost use Rattle.prepare.specs.Carried.{Tables};
 ghost use Rattle.search.specs.Search.{codeOf};
 ghost use Rattle.walk.specs.Carried.{answerOf};
-ghost use Rattle.query.specs.Query.{checked as checkedAs, replyOf, result, valuesOf, witnessed, queryOf};
+ghost use Rattle.query.specs.Query.{checked, replyOf, result, valuesOf, witnessed, queryOf};
 ghost use Rattle.query.specs.Promise.{Right, Bounded};
 use prepare::order::objectives;
 use prepare::prepare;
@@ -115,8 +115,8 @@ pub fn ask(
 ) -> Reply
     requires { ⌜ Tables (now sheet) (now order) (now plains) (now negated) ⌝ }
     ensures defined { λ r. ⌜ result r (now (store .exit)) (now (witness .exit)) ≡ queryOf (now (sheet .entry)) question allowance (now (store .entry)) (now (witness .entry)) ⌝ }
-    ensures right { λ r. ⌜ Right (checkedAs (now (sheet .entry)) question (length (now (witness .entry)))) question allowance (length (now (store .entry))) r (now (witness .entry)) (now (witness .exit)) ⌝ }
-    ensures bounded { λ r. ⌜ Bounded (checkedAs (now (sheet .entry)) question (length (now (witness .entry)))) question (length (now (store .entry))) r ⌝ }
+    ensures right { λ r. ⌜ Right (checked (now (sheet .entry)) question (length (now (witness .entry)))) question allowance (length (now (store .entry))) r (now (witness .entry)) (now (witness .exit)) ⌝ }
+    ensures bounded { λ r. ⌜ Bounded (checked (now (sheet .entry)) question (length (now (witness .entry)))) question (length (now (store .entry))) r ⌝ }
 {
     let n = word_at(sheet, 0) as usize;
     if !is_literal(question, n as u8) {
@@ -146,14 +146,14 @@ pub fn query(
     witness: &mut [u8],
 ) -> Reply
     ensures defined { λ r. ⌜ result r (now (store .exit)) (now (witness .exit)) ≡ queryOf (now (sheet .entry)) question allowance (now (store .entry)) (now (witness .entry)) ⌝ }
-    ensures right { λ r. ⌜ Right (checkedAs (now (sheet .entry)) question (length (now (witness .entry)))) question allowance (length (now (store .entry))) r (now (witness .entry)) (now (witness .exit)) ⌝ }
-    ensures bounded { λ r. ⌜ Bounded (checkedAs (now (sheet .entry)) question (length (now (witness .entry)))) question (length (now (store .entry))) r ⌝ }
+    ensures right { λ r. ⌜ Right (checked (now (sheet .entry)) question (length (now (witness .entry)))) question allowance (length (now (store .entry))) r (now (witness .entry)) (now (witness .exit)) ⌝ }
+    ensures bounded { λ r. ⌜ Bounded (checked (now (sheet .entry)) question (length (now (witness .entry)))) question (length (now (store .entry))) r ⌝ }
 {
     let mut plains = [0u64; 1024];
     let mut negated = [0u64; 1024];
     let mut order = [0u8; 128];
-    let checked = prepare(sheet, &mut plains, &mut negated, &mut order);
-    match checked {
+    let answer = prepare(sheet, &mut plains, &mut negated, &mut order);
+    match answer {
         Checked::Refused(code) => refused(code),
         Checked::Sizes(atoms, clauses, _) => {
             let n = atoms as usize;
