@@ -1,6 +1,6 @@
 // A sheet made ready for a walk: its clauses as words, its objectives, its branch order.
 ghost use mathlib.Core.Path.{_≡_};
-ghost use Rattle.sheet.specs.Answers.{checkOf};
+ghost use Rattle.sheet.specs.Enums.{checkOf};
 ghost use Rattle.sheet.specs.Reading.{read};
 ghost use Rattle.prepare.specs.Carried.{plainTable, negatedTable, orderTable};
 use sheet::Checked;

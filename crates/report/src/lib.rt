@@ -5,7 +5,7 @@ ghost use mathlib.Core.List.{_++_};
 ghost use Prim.Native.Nat.{_+_, _≤_, _<_};
 ghost use lib.ListN.{length};
 ghost use Rattle.sheet.specs.Literals.{isLiteral, literal, plain, atom};
-ghost use Rattle.sheet.specs.Answers.{checkOf};
+ghost use Rattle.sheet.specs.Enums.{checkOf};
 ghost use Rattle.sheet.specs.Reading.{read};
 ghost use Rattle.text.specs.Text.{letters, decimal, signedDecimal, Puts};
 ghost use Rattle.prepare.specs.Carried.{plainTable, negatedTable, orderTable, Tables};

@@ -88,6 +88,15 @@ module _ (closes : Node → Bool) where
       let u = leaf-extends ls w m h in
       ap (λ (x : ℕ). holds x l) (u .is) ∙ plains-agrees atoms some (u .node) (subst (Spread atoms) (sym (u .decides)) spread) l (u .keeps l k)
 
+  -- and the clauses by which the rule closes nodes are satisfied there, if all their atoms are decided
+  pub leaf-satisfies : (cs : List (List Lit)) → Closing cs closes → (atoms : List ℕ) → ((a : ℕ) → Mem a atoms → 1 ≤ a) → (ls : List Lit) (w : Node) → Spread atoms (atomsOf w ls)
+      → ((c : List Lit) (l : Lit) → Mem c cs → Mem l c → Mem (atom l) (atomsOf w ls)) → (m : ℕ) → Mem m (leaves (grow closes ls w)) → satisfies cs m ≡ true
+  leaf-satisfies cs closing atoms some ls w spread named m h =
+      let u = leaf-extends ls w m h in
+      ap (satisfies cs) (u .is)
+      ∙ closing .catches (u .node) (plains (u .node)) (plains-agrees atoms some (u .node) (subst (Spread atoms) (sym (u .decides)) spread))
+      (λ c l i j. subst (Mem (atom l)) (sym (u .decides)) (named c l i j)) (u .stays)
+
   -- ---- the way to a model
 
   -- values m that no node which agrees with them is closed against
@@ -151,12 +160,9 @@ module _ (atoms : List ℕ) (some : (a : ℕ) → Mem a atoms → 1 ≤ a) (orde
   pub leaf-model : ((c : List Lit) (l : Lit) → Mem c cs → Mem l c → Mem (atom l) atoms)
       → (m : ℕ) → Mem m (leaves (grow closes order [])) → Mem m (valuations atoms) × (satisfies cs m ≡ true)
   leaf-model inside m h =
-      let u = leaf-extends closes order [] m h in
-      let s = spread-at (u .node) (u .decides) in
-      subst (λ (m : ℕ). Mem m (valuations atoms) × (satisfies cs m ≡ true)) (sym (u .is)) (
-        plains-valued atoms some (u .node) s,
-        closing .catches (u .node) (plains (u .node)) (plains-agrees atoms some (u .node) s)
-            (λ c l i j. named-at (u .node) (u .decides) (atom l) (inside c l i j)) (u .stays),
+      let u = leaf-extends closes order [] m h in (
+        cast (u .is) (plains-valued atoms some (u .node) (spread-at (u .node) (u .decides))),
+        leaf-satisfies closes cs closing atoms some order [] (spread atoms order once) (λ c l i j. once .named (atom l) (inside c l i j)) m h,
       )
 
   pub model-leaf : (m : ℕ) → Mem m (valuations atoms) → satisfies cs m ≡ true → Mem m (leaves (grow closes order []))

@@ -6,7 +6,7 @@ use native.Mathlib.Omega.{arith}
 use lib.ListN.{length}
 use Rattle.sheet.proofs.ExactlyOne.{understood-accepted}
 use Rattle.sheet.proofs.Understood.{passed, atoms-are, clauses-counted, objectives-counted}
-use Rattle.sheet.specs.Answers.{checkOf}
+use Rattle.sheet.specs.Enums.{checkOf}
 use Rattle.sheet.specs.Layout.{atomCount, clauseCount, objectiveCount}
 use Rattle.sheet.specs.Reading.{Reading, refused, understood, read, sheetOf, Accepted}
 use Rattle.sheet.specs.declared.Checked.the-variants.{Refused, Sizes}

@@ -26,7 +26,7 @@ module _ (s : List ℕ) (ok : Accepted s) where
       ltb-false (clauseEnd s i) (clauseStart s i)
       (any-none (falls s) (below (clauseCount s)) (or-split (any (falls s) (below (clauseCount s))) _ (passed s ok .endsRise) .0) i (in-below (clauseCount s) i h))
 
-  last-end : clauseStart s (clauseCount s) ≡ literalCount s
+  pub last-end : clauseStart s (clauseCount s) ≡ literalCount s
   unfolding badEnds
   last-end = eqb-true (clauseStart s (clauseCount s)) (literalCount s) (not-false _ (or-split (any (falls s) (below (clauseCount s))) _ (passed s ok .endsRise) .1))
 
@@ -44,7 +44,7 @@ module _ (s : List ℕ) (ok : Accepted s) where
 
 -- ---- its bytes are literals
 
-getD-span : (from to : ℕ) (s : List ℕ) (i : ℕ) → i < to - from → getD (span from to s) i 0 ≡ getD s (from + i) 0
+pub getD-span : (from to : ℕ) (s : List ℕ) (i : ℕ) → i < to - from → getD (span from to s) i 0 ≡ getD s (from + i) 0
 getD-span from to s i h = getD-take (to - from) (drop from s) i 0 h ∙ getD-drop from s i 0
 
 -- what stands in a span of a span stands in the span

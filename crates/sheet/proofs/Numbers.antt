@@ -13,7 +13,7 @@ use mir.Syntax.{w8, w16}
 use mir.Val.{Fits, SFits, toZ, ofZ, sel}
 use borrow.Author.Tests.{lt-ltb, le-ltb}
 use Rattle.sheet.proofs.Literals.{signed-low, signed-high, literal-atom, between-says, between-holds, between-past}
-use Rattle.sheet.specs.Answers.{literalAnswer}
+use Rattle.sheet.specs.Enums.{literalAnswer}
 use Rattle.sheet.specs.Literals.{Lit, atom, plain, signed, ofNumber, literal, between, isLiteral}
 use Rattle.sheet.specs.declared.literal.Literal.the-variants.{Of, Neither}
 use Rattle.sheet.specs.declared.literal.Literal.{Literal}

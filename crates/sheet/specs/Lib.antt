@@ -1,6 +1,6 @@
 pub mod Literals
 pub mod Layout
 pub mod Reading
-pub mod Answers
+pub mod Enums
 pub mod Order
 pub mod Passed

@@ -1,7 +1,7 @@
 // The check sheet of document 01: refused with its number, or understood as clauses and objectives.
 ghost use mathlib.Core.Path.{_≡_};
 ghost use Rattle.sheet.specs.Reading.{read};
-ghost use Rattle.sheet.specs.Answers.{checkOf};
+ghost use Rattle.sheet.specs.Enums.{checkOf};
 
 pub mod bytes;
 pub mod literal;

@@ -3,7 +3,7 @@ ghost use mathlib.Core.Path.{_≡_};
 ghost use mathlib.Core.Bool.{true};
 ghost use Prim.Native.Nat.{_≤_};
 ghost use Rattle.sheet.specs.Literals.{signed as signedNumber, literal, isLiteral, complement as complementOf};
-ghost use Rattle.sheet.specs.Answers.{literalAnswer};
+ghost use Rattle.sheet.specs.Enums.{literalAnswer};
 
 // What a byte is among the literals of some atoms.
 pub enum Literal {

@@ -69,11 +69,11 @@ has-or a b i =
 
 -- ---- the lowest position, and the others in half the word
 
-has-low : (w : ℕ) → has w 0 ≡ eqb (w % 2) 1
+pub has-low : (w : ℕ) → has w 0 ≡ eqb (w % 2) 1
 unfolding has
 has-low w = ap (λ (x : ℕ). eqb (x % 2) 1) (div-one w)
 
-has-half : (w i : ℕ) → has w (suc i) ≡ has (w / 2) i
+pub has-half : (w i : ℕ) → has w (suc i) ≡ has (w / 2) i
 unfolding has
 has-half w i =
     let e : suc i ≡ 1 + i = omega arith in

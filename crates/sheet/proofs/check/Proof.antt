@@ -7,7 +7,7 @@ use Rattle.sheet.proofs.Table.{short-yes, short-no, counted, placed, re
 use Rattle.sheet.proofs.Understood.{atoms-are, clauses-counted, objectives-counted}
 use Rattle.sheet.proofs.check.Statement.{statement}
 use Rattle.sheet.proofs.check.Tie as tie
-use Rattle.sheet.specs.Answers.{checkOf}
+use Rattle.sheet.specs.Enums.{checkOf}
 use Rattle.sheet.specs.Passed.{Counted, Whole}
 use Rattle.sheet.specs.Reading.{short, outOfRange, misplaced, badEnds, read}
 use Rattle.sheet.specs.declared.Checked.the-variants.{Sizes}

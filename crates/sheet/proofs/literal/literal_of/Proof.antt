@@ -6,7 +6,7 @@ use borrow.Author.Needs.{needs}
 use Rattle.sheet.proofs.Numbers.{Distant, under, over, below-zero, above-zero, negation-fits, negation, itself, distance-fits, byNumber, by-number, least, nought, near, far}
 use Rattle.sheet.proofs.literal.literal_of.Statement.{statement}
 use Rattle.sheet.proofs.literal.literal_of.Tie as tie
-use Rattle.sheet.specs.Answers.{literalAnswer}
+use Rattle.sheet.specs.Enums.{literalAnswer}
 
 held : (c : tie.After-signed) → SFits w8 (c .signed .result)
 held c = record { sfits = c .signed .ok }

@@ -1,4 +1,4 @@
--- The answers of the code as values of the document.
+-- The code's enums as values of the document.
 use Prim.Native.Nat.{ℕ}
 use mathlib.Core.Bool.{cond}
 use lib.ListN.{length}
