@@ -43,7 +43,8 @@ denying x q = affirming x (complement q)
 
 -- ---- parts, and optimal models
 
--- "The part of a model is the set of objective positions whose literal it satisfies."
+-- "The part of a model is the set of objective positions whose literal it satisfies." (`pos 0` would stand past the last
+-- objective; no position goes there.)
 unfoldable pub part : List Lit → ℕ → ℕ
 part objectives m = setOf (pick (λ i. holds m (getD objectives i (pos 0))) (below (length objectives)))
 

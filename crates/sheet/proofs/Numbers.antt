@@ -45,41 +45,41 @@ pub record Distant (side : ℕ → ℤ) (z : ℤ) : Type 0 where
   pub is : z ≡ side k
   pub small : k < 127
 
-abbrev pub under : ℕ → ℤ
-under k = negsuc k
+abbrev pub negatives : ℕ → ℤ
+negatives k = negsuc k
 
-abbrev pub over : ℕ → ℤ
-over k = pos (suc k)
+abbrev pub positives : ℕ → ℤ
+positives k = pos (suc k)
 
-pub below-zero : (z : ℤ) → SFits w8 z → (ofZ w8 z ≡ 128 → ⊥) → ltZ (toZ w8 (ofZ w8 z)) (pos 0) ≡ true → Distant under z
+pub below-zero : (z : ℤ) → SFits w8 z → (ofZ w8 z ≡ 128 → ⊥) → ltZ (toZ w8 (ofZ w8 z)) (pos 0) ≡ true → Distant negatives z
 below-zero z f ne lt = go z (f .sfits) ne (ap (λ (x : ℤ). ltZ x (pos 0)) (sym (toZ-ofZ f)) ∙ lt)
   where
-    go : (z : ℤ) → mag z < 128 → (ofZ w8 z ≡ 128 → ⊥) → ltZ z (pos 0) ≡ true → Distant under z
+    go : (z : ℤ) → mag z < 128 → (ofZ w8 z ≡ 128 → ⊥) → ltZ z (pos 0) ≡ true → Distant negatives z
     go (pos n) m ne e = absurd (false≢true (sym (le-ltb n 0 zero-le) ∙ e))
     go (negsuc n) m ne e =
         let le : n ≤ 127 = omega arith in
         record { k = n; is = refl; small = ⊎-elim (λ e. absurd (ne (omega arith))) (λ l. l) (eq-or-lt-of-le le) }
 
-pub above-zero : (z : ℤ) → SFits w8 z → (ofZ w8 z ≡ 0 → ⊥) → ltZ (toZ w8 (ofZ w8 z)) (pos 0) ≡ false → Distant over z
+pub above-zero : (z : ℤ) → SFits w8 z → (ofZ w8 z ≡ 0 → ⊥) → ltZ (toZ w8 (ofZ w8 z)) (pos 0) ≡ false → Distant positives z
 above-zero z f ne lt = go z (f .sfits) ne (ap (λ (x : ℤ). ltZ x (pos 0)) (sym (toZ-ofZ f)) ∙ lt)
   where
-    go : (z : ℤ) → mag z < 128 → (ofZ w8 z ≡ 0 → ⊥) → ltZ z (pos 0) ≡ false → Distant over z
+    go : (z : ℤ) → mag z < 128 → (ofZ w8 z ≡ 0 → ⊥) → ltZ z (pos 0) ≡ false → Distant positives z
     go (pos zero) m ne e = absurd (ne refl)
     go (pos (suc n)) m ne e = record { k = n; is = refl; small = omega arith }
     go (negsuc n) m ne e = absurd (false≢true (sym e))
 
 -- the negation of a number below zero, and a number above it, as the code has them
 module _ {z : ℤ} (f : SFits w8 z) where
-  negation-is : (v : Distant under z) → pos 0 -ℤ toZ w8 (ofZ w8 z) ≡ pos (suc (v .k))
+  negation-is : (v : Distant negatives z) → pos 0 -ℤ toZ w8 (ofZ w8 z) ≡ pos (suc (v .k))
   negation-is v = ap (λ (x : ℤ). pos 0 -ℤ x) (toZ-ofZ f ∙ v .is) ∙ ap pos (zero-add (suc (v .k)))
 
-  pub negation-fits : Distant under z → SFits w8 (pos 0 -ℤ toZ w8 (ofZ w8 z))
+  pub negation-fits : Distant negatives z → SFits w8 (pos 0 -ℤ toZ w8 (ofZ w8 z))
   negation-fits v = let small : v .k < 127 = v .small in subst (SFits w8) (sym (negation-is v)) (record { sfits = omega arith })
 
-  pub negation : (v : Distant under z) → toZ w8 (ofZ w8 (pos 0 -ℤ toZ w8 (ofZ w8 z))) ≡ pos (suc (v .k))
+  pub negation : (v : Distant negatives z) → toZ w8 (ofZ w8 (pos 0 -ℤ toZ w8 (ofZ w8 z))) ≡ pos (suc (v .k))
   negation v = toZ-ofZ (negation-fits v) ∙ negation-is v
 
-  pub itself : (v : Distant over z) → toZ w8 (ofZ w8 z) ≡ pos (suc (v .k))
+  pub itself : (v : Distant positives z) → toZ w8 (ofZ w8 z) ≡ pos (suc (v .k))
   itself v = toZ-ofZ f ∙ v .is
 
 -- a distance is a byte

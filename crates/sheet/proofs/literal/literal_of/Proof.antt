@@ -3,7 +3,7 @@ use mathlib.Core.Path.{_≡_, refl, _∙_}
 use mir.Syntax.{w8}
 use mir.Val.{SFits}
 use borrow.Author.Needs.{needs}
-use Rattle.sheet.proofs.Numbers.{Distant, under, over, below-zero, above-zero, negation-fits, negation, itself, distance-fits, byNumber, by-number, least, nought, near, far}
+use Rattle.sheet.proofs.Numbers.{Distant, negatives, positives, below-zero, above-zero, negation-fits, negation, itself, distance-fits, byNumber, by-number, least, nought, near, far}
 use Rattle.sheet.proofs.literal.literal_of.Statement.{statement}
 use Rattle.sheet.proofs.literal.literal_of.Tie as tie
 use Rattle.sheet.specs.Enums.{literalAnswer}
@@ -14,10 +14,10 @@ held c = record { sfits = c .signed .ok }
 answered : (c : tie.After-signed) → byNumber (c .before .args .n) (c .signed .result) ≡ literalAnswer (c .before .args .n) (c .before .args .b)
 answered c = by-number _ (c .before .pre) (c .before .args .b) (c .before .fits .b .fits) (c .signed .ensures)
 
-below : (c : tie.Then3) → Distant under (c .before .before .before .signed .result)
+below : (c : tie.Then3) → Distant negatives (c .before .before .before .signed .result)
 below c = below-zero _ (held (c .before .before .before)) (c .before .before .if1 .left) (c .if3 .taken)
 
-above : (c : tie.Else3) → Distant over (c .before .before .before .signed .result)
+above : (c : tie.Else3) → Distant positives (c .before .before .before .signed .result)
 above c = above-zero _ (held (c .before .before .before)) (c .before .if2 .left) (c .if3 .left)
 
 signed-requires : tie.Need-signed-requires
