@@ -16,8 +16,8 @@ use Rattle.search.proofs.Nodes.{complement-atom, holds-complement, complement-t
 use Rattle.search.specs.Demands.{Demand2}
 use Rattle.search.specs.Models.{holds, containment, Optimal}
 use Rattle.sheet.proofs.Atoms.{objective-literal, objectives-literals}
-use Rattle.sheet.proofs.LiteralBytes.{complement-literal, complement-is-literal}
-use Rattle.sheet.proofs.Literals.{literal-atom, byte-of-literal, literal-small}
+use Rattle.sheet.proofs.LiteralBytes.{complement-literal, complement-is-literal, its-byte}
+use Rattle.sheet.proofs.Literals.{literal-atom, literal-small}
 use Rattle.sheet.proofs.Understood.{passed}
 use Rattle.sheet.specs.Layout.{atomCount, byte, objectiveBytes}
 use Rattle.sheet.specs.Literals.{Lit, atom, complement, literal, between, isLiteral, byteOf}
@@ -25,10 +25,6 @@ use Rattle.sheet.specs.Reading.{Reading, understood, sheetOf, Accepted}
 use Rattle.words.proofs.Bools.{refuted}
 use Rattle.words.proofs.Members.{all-out, mem-at}
 use Rattle.words.specs.Lists.{over}
-
--- the byte that stands for a literal is the one that is read as it
-pub its-byte : (c : ℕ) {l : Lit} → isLiteral 64 c ≡ true → literal c ≡ l → byteOf l ≡ c
-its-byte c lit is = ap byteOf (sym is) ∙ byte-of-literal c (literal-small 64 c (lit≤ tt) lit)
 
 module _ (s : List ℕ) (ok : Accepted s) (i : ℕ) (there : i < length (objectiveBytes s)) where
   abbrev b : ℕ

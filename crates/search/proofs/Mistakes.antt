@@ -5,7 +5,7 @@ use mathlib.Core.List.{List, [], _∷_, map}
 use mathlib.Core.Path.{_≡_, refl}
 use lib.Dec.{ltb}
 use lib.ListN.{length}
-use Rattle.search.specs.Grown.{falsified, grow, candidateClauses, game}
+use Rattle.search.specs.Grown.{falsified, grow, candidateClauses, game, posed}
 use Rattle.search.specs.Maximal.{maximalParts}
 use Rattle.search.specs.Models.{value, satisfies, valuations, models, affirming, denying, part, Preference, containment}
 use Rattle.search.specs.Search.{Game, State, Answer, Yes, No, visit, store, meet, test, judge, search as searched, answered, ended}
@@ -31,10 +31,6 @@ C = sheet 2 [] (pos 1 ∷ [])
 
 -- ---- the wrong rules
 
--- what is searched by the rules of document 01
-abbrev right : Sheet → Lit → Game
-right = game falsified containment
-
 -- "Comparing numbers of objectives met"
 abbrev byNumber : Preference
 byNumber = record { worse = λ p q. ltb (length (pick (has p) (below 64))) (length (pick (has q) (below 64))); kept = λ os. os }
@@ -45,7 +41,7 @@ orEqual = record { worse = within; kept = λ os. os }
 
 -- "Saying yes to the first affirming model": no rival is looked for
 abbrev firstAffirming : Sheet → Lit → Game
-firstAffirming x q = record { part = part (x .objectives); worse = strictlyWithin; candidates = right x q .candidates; rivals = λ m. closed }
+firstAffirming x q = record { part = part (x .objectives); worse = strictlyWithin; candidates = posed x q .candidates; rivals = λ m. closed }
 
 -- each child that makes a literal of the branch order true comes after the other
 abbrev secondChildFirst : Sheet → Lit → Game
@@ -54,7 +50,7 @@ secondChildFirst x q =
       part = part (x .objectives);
       worse = strictlyWithin;
       candidates = grow (falsified (candidateClauses x q)) (map complement (branch x)) [];
-      rivals = right x q .rivals;
+      rivals = posed x q .rivals;
     }
 
 -- what a search answers with many steps and places
@@ -65,7 +61,7 @@ pub wrong-answers : map answerOf (game falsified byNumber A (neg 3) ∷ game fal
 unfolding searched judge test meet visit store game grow falsified plains setOf adding has within strictlyWithin branch taking part value below
 wrong-answers = refl
 
-pub right-answers : map answerOf (right A (neg 3) ∷ right C (neg 2) ∷ right B (neg 2) ∷ right C (pos 1) ∷ []) ≡ (Yes 2 ∷ Yes 1 ∷ No ∷ Yes 3 ∷ [])
+pub right-answers : map answerOf (posed A (neg 3) ∷ posed C (neg 2) ∷ posed B (neg 2) ∷ posed C (pos 1) ∷ []) ≡ (Yes 2 ∷ Yes 1 ∷ No ∷ Yes 3 ∷ [])
 unfolding searched judge test meet visit store game grow falsified plains setOf adding has within strictlyWithin branch taking part value below
 right-answers = refl
 
@@ -78,7 +74,7 @@ pair n = sheet n ((neg 1 ∷ neg 2 ∷ []) ∷ []) (pos 1 ∷ pos 2 ∷ neg 3 �
 -- the tests, the parts stored, and the two numbers that bound them
 abbrev counts : Sheet → Lit → List ℕ
 counts x q =
-    let s : State = ended (searched (right x q) 100 4) in
+    let s : State = ended (searched (posed x q) 100 4) in
     s .tests ∷ length (s .stored) ∷ length (maximalParts containment x (affirming x q)) ∷ length (maximalParts containment x (denying x q)) ∷ []
 
 pub bounds-reached : map (λ n. counts (pair n) (pos 3)) (3 ∷ 4 ∷ []) ≡ ((2 ∷ 2 ∷ 2 ∷ 2 ∷ []) ∷ (2 ∷ 2 ∷ 2 ∷ 2 ∷ []) ∷ [])

@@ -15,7 +15,7 @@ use Rattle.search.proofs.Preferring.{Sensible, containment-sensible}
 use Rattle.search.proofs.Right.{tops-affirming, tops-denying, affirming-in, optimal-unbeaten, first-right}
 use Rattle.search.proofs.WellFormed.{WellFormed, well-formed}
 use Rattle.search.specs.Demands.{Possible, First, Demand2, Demand3}
-use Rattle.search.specs.Grown.{Rule, falsified, game}
+use Rattle.search.specs.Grown.{Rule, falsified, game, posed}
 use Rattle.search.specs.Models.{affirming, denying, Preference, containment}
 use Rattle.search.specs.Search.{State, Answer, Yes, No, Cut, NoPlace, search, answered, codeOf, ended}
 use Rattle.search.specs.Tree.{Run}
@@ -139,7 +139,7 @@ module _ (rule : Rule) (closes : Closes rule) (p : Preference) (x : Sheet) (form
 
 -- of an accepted sheet and a question byte that is a literal, by the rules of document 01
 pub kept-accepted : (s : List ℕ) → Accepted s → (b : ℕ) → isLiteral (atomCount s) b ≡ true → (allowance places : ℕ)
-    → Kept containment (sheetOf s) (literal b) allowance places (search (game falsified containment (sheetOf s) (literal b)) allowance places)
+    → Kept containment (sheetOf s) (literal b) allowance places (search (posed (sheetOf s) (literal b)) allowance places)
 kept-accepted s ok b lit =
     let form = well-formed s ok in
     kept falsified falsified-closes containment (sheetOf s) form (containment-sensible (sheetOf s) (form .fewObjectives)) (literal b) (literal-valued s ok b lit)

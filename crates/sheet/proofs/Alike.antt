@@ -1,9 +1,6 @@
 -- The contract of each public function determines its result. Assumes nothing.
-use Prim.Native.Nat.{ℕ}
-use mathlib.Core.Bool.{true}
-use mathlib.Core.Path.{_≡_, refl, sym, ap, _∙_}
-use lib.Dec.{lit≤}
-use Rattle.sheet.proofs.Literals.{byte-of-literal, literal-small}
+use mathlib.Core.Path.{refl, sym, _∙_}
+use Rattle.sheet.proofs.LiteralBytes.{its-byte}
 use Rattle.sheet.proofs.bytes.word_at.Kinds as word-at-kinds
 use Rattle.sheet.proofs.bytes.word_at.Reads as word-at
 use Rattle.sheet.proofs.check.Kinds as check-kinds
@@ -14,7 +11,6 @@ use Rattle.sheet.proofs.literal.is_literal.Kinds as is-literal-kinds
 use Rattle.sheet.proofs.literal.is_literal.Reads as is-literal
 use Rattle.sheet.proofs.literal.literal_of.Kinds as literal-of-kinds
 use Rattle.sheet.proofs.literal.literal_of.Reads as literal-of
-use Rattle.sheet.specs.Literals.{literal, isLiteral, byteOf}
 use Rattle.words.proofs.Steady.{Determines}
 
 pub check-alike : Determines check-kinds.ps check-kinds.r check.Pre check.Post (λ κs x. x)
@@ -29,9 +25,6 @@ is-literal-alike κs a good pre x y v w p q = (p ∙ sym q, refl)
 pub word-at-alike : Determines word-at-kinds.ps word-at-kinds.r word-at.Pre word-at.Post (λ κs x. x)
 word-at-alike κs a good pre x y v w p q = (p ∙ sym q, refl)
 
--- each of two literal bytes is the byte of its literal
+-- either byte is the one of the literal that the other is read as
 pub complement-alike : Determines complement-kinds.ps complement-kinds.r complement.Pre complement.Post (λ κs x. x)
-complement-alike κs a good pre x y v w p q = (sym (the-byte x (p .0)) ∙ ap byteOf (p .1 ∙ sym (q .1)) ∙ the-byte y (q .0), refl)
-  where
-    the-byte : (b : ℕ) → isLiteral 64 b ≡ true → byteOf (literal b) ≡ b
-    the-byte b is = byte-of-literal b (literal-small 64 b (lit≤ tt) is)
+complement-alike κs a good pre x y v w p q = (sym (its-byte x (p .0) (p .1)) ∙ its-byte y (q .0) (q .1), refl)

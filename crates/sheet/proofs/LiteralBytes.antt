@@ -5,7 +5,8 @@ use mathlib.Core.List.{List, [], _∷_, map, List·Memᴰ as Mem, List·Memᴰ·
 use mathlib.Core.Logic.{⊎-elim}
 use mathlib.Core.Path.{_≡_, refl, sym, ap, ap₂, _∙_, subst}
 use native.Mathlib.Omega.{arith}
-use Rattle.sheet.proofs.Literals.{between-says, literal-low, literal-high, atom-literal, negation-literal}
+use lib.Dec.{lit≤}
+use Rattle.sheet.proofs.Literals.{between-says, literal-low, literal-high, literal-small, byte-of-literal, atom-literal, negation-literal}
 use Rattle.sheet.specs.Literals.{Lit, pos, neg, atom, literal, between, isLiteral, byteOf, complement}
 use Rattle.words.proofs.Bools.{or-cases}
 
@@ -61,6 +62,10 @@ complement-placed (pos a) r = r
 complement-placed (neg a) r = r
 
 -- ---- the byte of a literal
+
+-- the byte that stands for a literal is the one that is read as it
+pub its-byte : (b : ℕ) {l : Lit} → isLiteral 64 b ≡ true → literal b ≡ l → byteOf l ≡ b
+its-byte b lit is = ap byteOf (sym is) ∙ byte-of-literal b (literal-small 64 b (lit≤ tt) lit)
 
 pub is-literal : (l : Lit) → (1 ≤ atom l) × (atom l ≤ 64) → isLiteral 64 (byteOf l) ≡ true
 is-literal (pos a) r = atom-literal a (r .0) (r .1)

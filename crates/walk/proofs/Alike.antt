@@ -3,7 +3,7 @@
 -- one, determine nothing where they do not. Assumes nothing.
 use Prim.Native.Nat.{ℕ, _≤_}
 use mathlib.Core.List.{List, [], _∷_, map, Memᴰ·of-map as of-map}
-use mathlib.Core.Path.{_≡_, refl, sym, ap, _∙_, subst}
+use mathlib.Core.Path.{_≡_, refl, sym, ap, ap₂, _∙_, subst}
 use lib.ListN.{length}
 use Rattle.prepare.proofs.Standing.{Fitting, fitting, Words, standing, standing-clauses}
 use Rattle.prepare.specs.Carried.{setsOf}
@@ -11,7 +11,8 @@ use Rattle.prepare.specs.declared.clauses.Literals.{Literals}
 use Rattle.search.specs.Search.{Stop, found, spent}
 use Rattle.search.specs.Tree.{Run, on, off}
 use Rattle.sheet.proofs.LiteralBytes.{complement-placed}
-use Rattle.sheet.specs.Literals.{Lit, pos, neg, atom, complement}
+use Rattle.sheet.specs.Literals.{Lit, atom, complement}
+use Rattle.walk.proofs.Judging.{complement-twice}
 use Rattle.walk.proofs.node.closed.Kinds as closed-kinds
 use Rattle.walk.proofs.node.closed.Reads as closed
 use Rattle.walk.proofs.node.holds.Kinds as holds-kinds
@@ -33,10 +34,9 @@ part-of-alike κs a good pre x y v w p q = (p ∙ sym q, refl)
 
 -- ---- what a node's words stand for
 
-complement-twice : (ls : List Lit) → map complement (map complement ls) ≡ ls
-complement-twice [] = refl
-complement-twice (pos a ∷ ls) = ap (λ (l : List Lit). pos a ∷ l) (complement-twice ls)
-complement-twice (neg a ∷ ls) = ap (λ (l : List Lit). neg a ∷ l) (complement-twice ls)
+complements-twice : (ls : List Lit) → map complement (map complement ls) ≡ ls
+complements-twice [] = refl
+complements-twice (l ∷ ls) = ap₂ _∷_ (complement-twice l) (complements-twice ls)
 
 -- two values that tell the same, whatever the words stand for, are equal: there is something that they stand for
 stood : {A : Type 0} {x y : A} {f : List (List Lit) → List Lit → List Lit → A} {ps ns : List ℕ} {ban node : Literals}
@@ -50,7 +50,7 @@ stood {ps = ps} {ns = ns} {ban = ban} {node = node} even p n fits-ban fits-node 
     let us = map complement (b .0) in
     let st : Stand (c .0) us (w .0) ps ns ban node = record {
       clauses = c .1;
-      banned = b .2 ∙ ap setsOf (sym (complement-twice (b .0)));
+      banned = b .2 ∙ ap setsOf (sym (complements-twice (b .0)));
       conditions = λ l m. let u = of-map complement (b .0) m in subst (λ (x : Lit). (1 ≤ atom x) × (atom x ≤ 64)) (u .2) (complement-placed (u .0) (b .1 (u .0) (u .1)));
       made = w .2;
       decided = w .1;

@@ -6,11 +6,12 @@ use native.Mathlib.Omega.{arith}
 use borrow.Author.Needs.{needs}
 use lib.ListN.{length, getD, replicate}
 use Rattle.query.specs.Query.{queryOf}
-use Rattle.report.proofs.Meaning.{its-byte, objective-is-literal}
+use Rattle.report.proofs.Meaning.{objective-is-literal}
 use Rattle.report.proofs.Texts.{listed-there, a-line}
 use Rattle.report.proofs.line.Statement.{statement}
 use Rattle.report.proofs.line.Tie as tie
 use Rattle.report.specs.Lines.{line, asked}
+use Rattle.sheet.proofs.LiteralBytes.{its-byte}
 use Rattle.sheet.proofs.Understood.{passed, objective-bytes-counted}
 use Rattle.sheet.specs.Layout.{objectiveBytes}
 use Rattle.sheet.specs.Literals.{complement, isLiteral, literal}
