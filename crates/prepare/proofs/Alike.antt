@@ -7,18 +7,12 @@ use Rattle.prepare.proofs.clauses.with_literal.Kinds as with-literal-ki
 use Rattle.prepare.proofs.clauses.with_literal.Reads as with-literal
 use Rattle.prepare.proofs.order.branch_order.Kinds as branch-kinds
 use Rattle.prepare.proofs.order.branch_order.Reads as branch
-use Rattle.prepare.proofs.order.objectives.Kinds as objectives-kinds
-use Rattle.prepare.proofs.order.objectives.Reads as objectives
 use Rattle.prepare.proofs.prepare.Kinds as prepare-kinds
 use Rattle.prepare.proofs.prepare.Reads as prepare
 use Rattle.words.proofs.Steady.{Determines}
 
 pub clauses-into-alike : Determines clauses-kinds.ps clauses-kinds.r clauses.Pre clauses.Post (λ κs x. x)
 clauses-into-alike κs a good pre x y v w p q = (refl, λ i. (tt, ((p .0 ∙ sym (q .0)) i, ((p .1 ∙ sym (q .1)) i, tt))))
-
--- of the slice its bytes
-pub objectives-alike : Determines objectives-kinds.ps objectives-kinds.r objectives.Pre objectives.Post (λ κs x. x .now)
-objectives-alike κs a good pre x y v w p q = (p ∙ sym q, refl)
 
 pub branch-order-alike : Determines branch-kinds.ps branch-kinds.r branch.Pre branch.Post (λ κs x. x)
 branch-order-alike κs a good pre x y v w p q = (refl, λ i. (tt, ((p ∙ sym q) i, tt)))

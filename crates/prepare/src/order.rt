@@ -1,4 +1,4 @@
-// What the walk goes by: the objectives of an accepted sheet, and the branch order.
+// The branch order of an accepted sheet.
 ghost use mathlib.Core.Path.{_≡_};
 ghost use mathlib.Core.Bool.{true};
 ghost use mathlib.Core.List.{List, [], map};
@@ -6,10 +6,10 @@ ghost use Prim.Native.Nat.{ℕ, _+_, _≤_, _<_};
 ghost use lib.ListN.{length};
 ghost use Rattle.words.specs.Lists.{all, over};
 ghost use Rattle.sheet.specs.Literals.{Lit, pos, literal, isLiteral, byteOf};
-ghost use Rattle.sheet.specs.Layout.{objectiveBytes};
 ghost use Rattle.sheet.specs.Reading.{sheetOf, Accepted};
 ghost use Rattle.sheet.specs.Order.{taking, takingAll, branch, upTo};
 ghost use Rattle.prepare.specs.Carried.{Ordered};
+use sheet::bytes::objectives;
 use sheet::bytes::word_at;
 use sheet::literal::Literal;
 use sheet::literal::literal_of;
@@ -18,16 +18,6 @@ use sheet::literal::literal_of;
 pub struct Named {
     pub atoms: u64,
     pub count: usize,
-}
-
-// The objective bytes of an accepted sheet.
-pub fn objectives(s: &[u8]) -> &[u8]
-    requires { ⌜ Accepted (now s) ⌝ }
-    ensures { λ r. ⌜ now r ≡ objectiveBytes (now (s .entry)) ⌝ }
-{
-    let from = 32 + 4 * word_at(s, 4) as usize + word_at(s, 12) as usize;
-    let to = from + word_at(s, 8) as usize;
-    &s[from..to]
 }
 
 // Puts a literal at the end of the order, unless its atom is named there.

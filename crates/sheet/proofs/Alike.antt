@@ -1,6 +1,8 @@
 -- The contract of each public function determines its result. Assumes nothing.
 use mathlib.Core.Path.{refl, sym, _∙_}
 use Rattle.sheet.proofs.LiteralBytes.{its-byte}
+use Rattle.sheet.proofs.bytes.objectives.Kinds as objectives-kinds
+use Rattle.sheet.proofs.bytes.objectives.Reads as objectives
 use Rattle.sheet.proofs.bytes.word_at.Kinds as word-at-kinds
 use Rattle.sheet.proofs.bytes.word_at.Reads as word-at
 use Rattle.sheet.proofs.check.Kinds as check-kinds
@@ -24,6 +26,10 @@ is-literal-alike κs a good pre x y v w p q = (p ∙ sym q, refl)
 
 pub word-at-alike : Determines word-at-kinds.ps word-at-kinds.r word-at.Pre word-at.Post (λ κs x. x)
 word-at-alike κs a good pre x y v w p q = (p ∙ sym q, refl)
+
+-- of the slice its bytes
+pub objectives-alike : Determines objectives-kinds.ps objectives-kinds.r objectives.Pre objectives.Post (λ κs x. x .now)
+objectives-alike κs a good pre x y v w p q = (p ∙ sym q, refl)
 
 -- either byte is the one of the literal that the other is read as
 pub complement-alike : Determines complement-kinds.ps complement-kinds.r complement.Pre complement.Post (λ κs x. x)

@@ -6,6 +6,7 @@ ghost use Rattle.words.specs.Lists.{any};
 ghost use Rattle.sheet.specs.Layout.{atomCount, objectiveBytes};
 ghost use Rattle.sheet.specs.Reading.{outOfRange, misplaced as isMisplaced, badEnds, noLiteral, badLiteral, badObjective};
 ghost use Rattle.sheet.specs.Passed.{Counted, Whole};
+use crate::bytes::objectives;
 use crate::bytes::word_at;
 use crate::literal::is_literal;
 
@@ -137,7 +138,5 @@ pub fn bad_objective(s: &[u8]) -> bool
     requires { ⌜ Whole (now s) ⌝ }
     ensures { λ r. ⌜ r ≡ badObjective (atomCount (now (s .entry))) (objectiveBytes (now (s .entry))) ⌝ }
 {
-    let from = 32 + 4 * word_at(s, 4) as usize + word_at(s, 12) as usize;
-    let to = from + word_at(s, 8) as usize;
-    bad_or_twice(&s[from..to], word_at(s, 0) as u8)
+    bad_or_twice(objectives(s), word_at(s, 0) as u8)
 }

@@ -66,7 +66,7 @@ returns-2 c =
     (accepted-checked (a .sheet .now) (a .question) (length (a .witness .now)) (s .pre .accepted) (none-asked (c .before .before .before) ∙ c .before .before .if1 .left) short)
 
 objectives-requires : tie.Need-objectives-requires
-objectives-requires c κs = search needs
+objectives-requires c κs = passed _ (c .before .before .before .before .before .before .before .before .before .before .pre .accepted) .sized
 
 -- what the walk reads is what the sheet says
 reads : (c : tie.After-objectives) → let s = c .before .before .before .before .before .before .before .before .before .before .before in let a = s .args in let os = c .objectives .result .now in

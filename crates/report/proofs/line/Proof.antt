@@ -27,7 +27,7 @@ is-literal c =
     ap (λ l. isLiteral 64 (getD l (s .args .i) 0)) (c .objectives .ensures) ∙ objective-is-literal _ (s .pre .0 .accepted) (s .args .i) (there s)
 
 objectives-requires : tie.Need-objectives-requires
-objectives-requires c κs = search needs
+objectives-requires c κs = passed _ (c .before .before .before .before .pre .0 .accepted) .sized
 
 shared-slice-read-b : tie.Need-shared-slice-read-b
 shared-slice-read-b c = omega (arith, there (c .before .before .before .before .before .before), ap length (c .before .objectives .ensures))

@@ -19,7 +19,7 @@ few-atoms : (c : tie.After-word-at) → c .word-at .result ≤ 64
 few-atoms c = omega (arith, passed _ (c .before .before .before .before .before .before .before .before .before .pre .0) .sized .counted .atoms, c .word-at .ensures)
 
 objectives-requires : tie.Need-objectives-requires
-objectives-requires c κs = search needs
+objectives-requires c κs = passed _ (c .before .before .before .pre .0) .sized
 
 take-objectives-requires : tie.Need-take-objectives-requires
 take-objectives-requires c κs =

@@ -1,19 +1,13 @@
--- `prepare::order::objectives`: the part that is handed back is that of the objectives. Assumes nothing.
+-- `sheet::bytes::objectives`: the part that is handed back is that of the objectives. Assumes nothing.
 use Prim.Native.Nat.{_+_, _*_}
 use mathlib.Core.Path.{_≡_}
-use native.Mathlib.Omega.{arith}
 use borrow.Author.Needs.{needs}
-use Rattle.sheet.proofs.Understood.{passed}
-use Rattle.prepare.proofs.order.objectives.Statement.{statement}
-use Rattle.prepare.proofs.order.objectives.Tie as tie
+use Rattle.sheet.proofs.bytes.objectives.Statement.{statement}
+use Rattle.sheet.proofs.bytes.objectives.Tie as tie
 use Rattle.sheet.specs.Layout.{span, objectivesAt}
-use Rattle.sheet.specs.Passed.{Whole}
-
-sized : (c : tie.After-shared-slice-known) → Whole (c .before .args .s .now)
-sized c = passed _ (c .before .pre) .sized
 
 word-at-requires : tie.Need-word-at-requires
-word-at-requires c κs = omega (arith, sized c)
+word-at-requires c κs = search needs
 
 cast-from : tie.Need-cast-from
 cast-from c = search needs
@@ -25,7 +19,7 @@ add-from : tie.Need-add-from
 add-from c = search needs
 
 word-at-requires-2 : tie.Need-word-at-requires-2
-word-at-requires-2 c κs = omega (arith, sized (c .before))
+word-at-requires-2 c κs = search needs
 
 cast-from-2 : tie.Need-cast-from-2
 cast-from-2 c = search needs
@@ -34,7 +28,7 @@ add-from-2 : tie.Need-add-from-2
 add-from-2 c = search needs
 
 word-at-requires-3 : tie.Need-word-at-requires-3
-word-at-requires-3 c κs = omega (arith, sized (c .before .before))
+word-at-requires-3 c κs = search needs
 
 cast-to : tie.Need-cast-to
 cast-to c = search needs
@@ -49,10 +43,7 @@ part-result-start : tie.Need-part-result-start
 part-result-start c = search needs
 
 part-result-end : tie.Need-part-result-end
-part-result-end c =
-    let u = c .before .before .before in
-    let p = sized u in
-    omega (arith, p .whole, c .before .before .word-at .ensures, c .before .word-at2 .ensures, c .word-at3 .ensures)
+part-result-end c = search needs
 
 returns : tie.Need-returns
 returns c =
