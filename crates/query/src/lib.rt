@@ -25,7 +25,7 @@ pub struct Reply {
 
 // A refusal before the walk.
 fn refused(code: u8) -> Reply
-    ensures* { λ r. ⌜ r ≡ reply_of code 0 0 0 ⌝ }
+    ensures { result ≡ reply_of code 0 0 0 }
 {
     Reply {
         code,
@@ -37,7 +37,7 @@ fn refused(code: u8) -> Reply
 
 // The witness byte of the atom at a place of the model.
 fn value_byte(model: u64, i: u8) -> u8
-    ensures* { λ r. ⌜ r ≡ cond (has model i) 1 0 ⌝ }
+    ensures { result ≡ cond (has model i) 1 0 }
 {
     if words::has(model, i) {
         return 1;
@@ -48,7 +48,7 @@ fn value_byte(model: u64, i: u8) -> u8
 // Writes the values of the atoms 1 to n into the first n bytes.
 fn write_values(model: u64, n: usize, witness: &mut [u8])
     requires { (n ≤ 64) × (n ≤ length witness.old) }
-    ensures* { λ _. ⌜ witness.new ≡ over (values_of n model) witness.old ⌝ }
+    ensures { witness.new ≡ over (values_of n model) witness.old }
 {
     let mut i = 0;
     while i < n {
@@ -59,7 +59,7 @@ fn write_values(model: u64, n: usize, witness: &mut [u8])
 
 // The code of a walk that has ended.
 fn code_of(ending: Ending) -> u8
-    ensures* { λ r. ⌜ r ≡ code_of (answer_of ending) ⌝ }
+    ensures { result ≡ code_of (answer_of ending) }
 {
     match ending {
         Ending::Affirmed(_) => 1,
@@ -72,7 +72,7 @@ fn code_of(ending: Ending) -> u8
 // Writes the witness on a yes.
 fn show(ending: Ending, n: usize, witness: &mut [u8])
     requires { (n ≤ 64) × (n ≤ length witness.old) }
-    ensures* { λ _. ⌜ witness.new ≡ witnessed (answer_of ending) n witness.old ⌝ }
+    ensures { witness.new ≡ witnessed (answer_of ending) n witness.old }
 {
     match ending {
         Ending::Affirmed(model) => write_values(model, n, witness),
@@ -85,8 +85,8 @@ fn show(ending: Ending, n: usize, witness: &mut [u8])
 // The reply of a walk that has ended, and the witness on a yes.
 fn finish(w: Walked, n: usize, witness: &mut [u8]) -> Reply
     requires { (n ≤ 64) × (n ≤ length witness.old) }
-    ensures* r_value { λ r. ⌜ r ≡ reply_of (code_of (answer_of w.ending)) w.steps w.tests w.stored ⌝ }
-    ensures* witness_after { λ r. ⌜ witness.new ≡ witnessed (answer_of w.ending) n witness.old ⌝ }
+    ensures r_value { result ≡ reply_of (code_of (answer_of w.ending)) w.steps w.tests w.stored }
+    ensures witness_after { witness.new ≡ witnessed (answer_of w.ending) n witness.old }
 {
     let ending = w.ending;
     show(ending, n, witness);
@@ -110,9 +110,9 @@ pub fn ask(
     witness: &mut [u8],
 ) -> Reply
     requires { Tables sheet.now order.now plains.now negated.now }
-    ensures* defined { λ r. ⌜ outcome r store.new witness.new ≡ query_of sheet.now question allowance store.old witness.old ⌝ }
-    ensures* right { λ r. ⌜ Right (checked sheet.now question (length witness.old)) question allowance (length store.old) r witness.old witness.new ⌝ }
-    ensures* bounded { λ r. ⌜ Bounded (checked sheet.now question (length witness.old)) question (length store.old) r ⌝ }
+    ensures defined { outcome result store.new witness.new ≡ query_of sheet.now question allowance store.old witness.old }
+    ensures right { Right (checked sheet.now question (length witness.old)) question allowance (length store.old) result witness.old witness.new }
+    ensures bounded { Bounded (checked sheet.now question (length witness.old)) question (length store.old) result }
 {
     let n = word_at(sheet, 0) as usize;
     if !is_literal(question, n as u8) {
@@ -141,9 +141,9 @@ pub fn query(
     store: &mut [u64],
     witness: &mut [u8],
 ) -> Reply
-    ensures* defined { λ r. ⌜ outcome r store.new witness.new ≡ query_of sheet.now question allowance store.old witness.old ⌝ }
-    ensures* right { λ r. ⌜ Right (checked sheet.now question (length witness.old)) question allowance (length store.old) r witness.old witness.new ⌝ }
-    ensures* bounded { λ r. ⌜ Bounded (checked sheet.now question (length witness.old)) question (length store.old) r ⌝ }
+    ensures defined { outcome result store.new witness.new ≡ query_of sheet.now question allowance store.old witness.old }
+    ensures right { Right (checked sheet.now question (length witness.old)) question allowance (length store.old) result witness.old witness.new }
+    ensures bounded { Bounded (checked sheet.now question (length witness.old)) question (length store.old) result }
 {
     let mut plains = [0u64; 1024];
     let mut negated = [0u64; 1024];
