@@ -1,4 +1,6 @@
 // The core for programs in other languages. A slice is passed as a pointer and then a length, an array as a pointer.
+#![tactic(auto)]
+
 ghost use Rattle.std.specs.Prelude.{◌≡◌, length};
 ghost use Rattle.sheet.specs.Reading.{read};
 ghost use Rattle.query.specs.Query.{checked, query_of};

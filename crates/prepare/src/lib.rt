@@ -1,4 +1,6 @@
 // A sheet made ready for a walk: its clauses as words, its objectives, its branch order.
+#![tactic(auto)]
+
 ghost use Rattle.std.specs.Prelude.{◌≡◌};
 ghost use Rattle.sheet.specs.Enums.{check_of};
 ghost use Rattle.sheet.specs.Reading.{read};

@@ -1,4 +1,6 @@
 // The query: the checks in the document's order, then the search.
+#![tactic(auto)]
+
 ghost use Rattle.std.specs.Prelude.{◌≡◌, cond, ◌≤◌, length};
 ghost use Rattle.words.specs.Lists.{over};
 ghost use Rattle.words.specs.Positions.{has};

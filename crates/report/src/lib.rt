@@ -1,4 +1,6 @@
 // The lines that are printed of a sheet, each put into a lent buffer.
+#![tactic(auto)]
+
 ghost use Rattle.std.specs.Prelude.{◌≡◌, true, not, ◌++◌, ◌+◌, ◌≤◌, ◌<◌, length};
 ghost use Rattle.sheet.specs.Literals.{is_literal, literal, plain, atom};
 ghost use Rattle.sheet.specs.Enums.{check_of};

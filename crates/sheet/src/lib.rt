@@ -1,4 +1,6 @@
 // The check sheet of document 01: refused with its number, or understood as clauses and objectives.
+#![tactic(auto)]
+
 ghost use Rattle.std.specs.Prelude.{◌≡◌};
 ghost use Rattle.sheet.specs.Reading.{read};
 ghost use Rattle.sheet.specs.Enums.{check_of};

@@ -1,6 +1,6 @@
 // A byte as a literal: its two's complement number, whose sign is the literal's and whose distance from zero is the atom.
 ghost use Rattle.std.specs.Prelude.{◌≡◌, true, ◌≤◌};
-ghost use Rattle.sheet.specs.Literals.{signed as signedNumber, literal, is_literal, complement as complementOf};
+ghost use Rattle.sheet.specs.Literals.{signed as signed_number, literal, is_literal, complement as complement_of};
 ghost use Rattle.sheet.specs.Enums.{literal_answer};
 
 // What a byte is among the literals of some atoms.
@@ -13,7 +13,7 @@ pub enum Literal {
 
 // The two's complement number of a byte.
 fn signed(b: u8) -> i8
-    ensures { result ≡ signedNumber b }
+    ensures { result ≡ signed_number b }
 {
     if b < 128 {
         b as i8
@@ -62,7 +62,7 @@ pub fn is_literal(b: u8, n: u8) -> bool
 // The byte of the complement of a literal.
 pub fn complement(b: u8) -> u8
     requires { is_literal 64 b ≡ true }
-    ensures { (is_literal 64 result ≡ true) × (literal result ≡ complementOf (literal b)) }
+    ensures { (is_literal 64 result ≡ true) × (literal result ≡ complement_of (literal b)) }
 {
     255 - b + 1
 }

@@ -2,7 +2,7 @@
 ghost use Rattle.std.specs.Prelude.{◌≡◌, ◌≤◌, length};
 ghost use Rattle.words.specs.Lists.{any};
 ghost use Rattle.sheet.specs.Layout.{atom_count, objective_bytes};
-ghost use Rattle.sheet.specs.Reading.{out_of_range, misplaced as isMisplaced, bad_ends, no_literal, bad_literal, bad_objective};
+ghost use Rattle.sheet.specs.Reading.{out_of_range, misplaced as is_misplaced, bad_ends, no_literal, bad_literal, bad_objective};
 ghost use Rattle.sheet.specs.Passed.{Counted, Whole};
 
 use crate::bytes::{objectives, word_at};
@@ -35,7 +35,7 @@ pub fn out_of_range(s: &[u8]) -> bool
 // 12: whether one of words 4 to 7 is not what words 1 to 3 make it, or the length is not word 7.
 pub fn misplaced(s: &[u8]) -> bool
     requires { Counted s.now }
-    ensures { result ≡ isMisplaced s.now }
+    ensures { result ≡ is_misplaced s.now }
 {
     let literals_at = 32 + 4 * word_at(s, 4);
     let objectives_at = literals_at + word_at(s, 12);

@@ -1,4 +1,6 @@
 // The program: one sheet from standard input, its lines to standard output.
+#![tactic(auto)]
+
 ghost use Rattle.std.specs.Prelude.{◌≡◌, ◌<◌};
 ghost use Rattle.sheet.specs.Reading.{read};
 ghost use Rattle.prepare.specs.Carried.{Tables};

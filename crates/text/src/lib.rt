@@ -1,4 +1,6 @@
 // Text put into a lent buffer. Each function answers where the text then ends.
+#![tactic(auto)]
+
 ghost use Rattle.std.specs.Prelude.{◌+◌, ◌≤◌, length};
 ghost use Rattle.text.specs.Text.{decimal, signed_decimal, Puts};
 

@@ -2,8 +2,8 @@
 ghost use Rattle.std.specs.Prelude.{◌≡◌, true, false, ◌∷◌, map, ◌+◌, ◌≤◌, ◌<◌, length};
 ghost use Rattle.words.specs.Lists.{any, all, pick};
 ghost use Rattle.words.specs.Positions.{strictly_within};
-ghost use Rattle.sheet.specs.Literals.{literal, is_literal, complement as complementOf};
-ghost use Rattle.search.specs.Models.{holds as isTrue};
+ghost use Rattle.sheet.specs.Literals.{literal, is_literal, complement as complement_of};
+ghost use Rattle.search.specs.Models.{holds as is_true};
 ghost use Rattle.walk.specs.declared.candidates.Ending.TheVariants.{Going as going};
 ghost use Rattle.walk.specs.Carried.{steps_of, InBounds, Onward, TellsSettled, TellsJudged, TellsRoamed, TellsSearched};
 ghost use Rattle.prepare.specs.Carried.{sets_of, Readable};
@@ -34,7 +34,7 @@ pub struct Walked {
 // The literals that may not be true in the test of a model: the question, and the complement of each objective that the model satisfies.
 fn ban_of(objectives: &[u8], model: u64, question: u8) -> Literals
     requires { (all (is_literal 64) objectives.now ≡ true) × (is_literal 64 question ≡ true) }
-    ensures { result ≡ sets_of (map complementOf (complementOf (literal question) ∷ pick (isTrue model) (map literal objectives.now))) }
+    ensures { result ≡ sets_of (map complement_of (complement_of (literal question) ∷ pick (is_true model) (map literal objectives.now))) }
 {
     let mut ban = Literals {
         plains: 0,

@@ -1,10 +1,12 @@
 // Sets of at most 64 positions as 64-bit words: position i is bit i.
+#![tactic(auto)]
+
 ghost use Rattle.std.specs.Prelude.{◌≡◌, ◌<◌};
-ghost use Rattle.words.specs.Positions.{has as hasPosition, adding as addingPosition, within as liesWithin, strictly_within};
+ghost use Rattle.words.specs.Positions.{has as has_position, adding as adding_position, within as lies_within, strictly_within};
 
 // Whether position i is in the set w.
 pub fn has(w: u64, i: u8) -> bool
-    ensures { result ≡ hasPosition w i }
+    ensures { result ≡ has_position w i }
 {
     if 64 <= i {
         return false;
@@ -15,14 +17,14 @@ pub fn has(w: u64, i: u8) -> bool
 // The set w with position i.
 pub fn adding(w: u64, i: u8) -> u64
     requires { i < 64 }
-    ensures { result ≡ addingPosition w i }
+    ensures { result ≡ adding_position w i }
 {
     w | (1u64 << i)
 }
 
 // Whether every position of a is one of b.
 pub fn within(a: u64, b: u64) -> bool
-    ensures { result ≡ liesWithin a b }
+    ensures { result ≡ lies_within a b }
 {
     let mut i = 0u8;
     while i < 64 {
