@@ -1,8 +1,8 @@
 /* How many bytes of stack the two calls need: each runs on a stack that was filled with a pattern beforehand. Fails if the header promises
  * less.
  *
- *     rt staticlib jarvulpe
- *     gcc -O2 -Iinclude bench/stack.c target/staticlib/libjarvulpe.a -o target/stack && target/stack
+ *     (cd crates/jarvulpe && rt lib)
+ *     gcc -O2 -Iinclude bench/stack.c crates/jarvulpe/out/libjarvulpe.a -o target/stack && target/stack
  */
 #include <stdio.h>
 #include <string.h>

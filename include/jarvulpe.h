@@ -37,8 +37,8 @@
  *
  * From the root of the project, with the program above as example.c:
  *
- *     rt staticlib jarvulpe
- *     gcc -std=c99 -Iinclude example.c target/staticlib/libjarvulpe.a -o example && ./example
+ *     (cd crates/jarvulpe && rt lib)
+ *     gcc -std=c99 -Iinclude example.c crates/jarvulpe/out/libjarvulpe.a -o example && ./example
  *
  * It prints that observation 1 is suspect and observation 2 is not:
  *

@@ -27,7 +27,7 @@ fn main() {
 fn archive_folder() -> PathBuf {
     match env::var_os(OVERRIDE) {
         Some(folder) => PathBuf::from(folder),
-        None => manifest_folder().join("../target/staticlib"),
+        None => manifest_folder().join("../crates/jarvulpe/out"),
     }
 }
 

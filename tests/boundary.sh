@@ -1,11 +1,11 @@
 #!/bin/sh
 # The static library through its C header: tests/boundary.c, the example that the header opens with, and the stack that it promises. POSIX
-# sh; needs gcc and target/staticlib/libjarvulpe.a.
+# sh; needs gcc and crates/jarvulpe/out/libjarvulpe.a.
 set -u
 cd "$(dirname "$0")/.." || exit 2
 . tests/lib.sh
 header=include/jarvulpe.h
-library=target/staticlib/libjarvulpe.a
+library=crates/jarvulpe/out/libjarvulpe.a
 
 # compiled NAME COMPILER SOURCE PROGRAM: without a warning
 compiled() {

@@ -4,20 +4,21 @@ set -u
 cd "$(dirname "$0")/.." || exit 2
 . tests/lib.sh
 here=$work/tree
-mkdir -p "$here/docs" "$here/crates/words" "$work/bin" "$work/tools" "$work/elsewhere"
+mkdir -p "$here/docs" "$here/crates/words" "$here/crates/suspects" "$work/bin" "$work/tools" "$work/elsewhere"
 cp suspects "$here/suspects"
 cp docs/codes.txt "$here/docs/codes.txt"
 : >"$here/crates.txt"
 cd "$here" || exit 2
 
-# The stand-in for rt. What it reads must be nothing: standard input may be the sheet.
+# The stand-in for rt, called in crates/suspects. What it reads must be nothing: standard input may be the sheet.
 cat >"$work/bin/rt" <<'END'
 #!/bin/sh
-printf '%s\n' "$*" >>"$CALLS"
+printf '%s in %s\n' "$*" "${PWD##*/}" >>"$CALLS"
+cd ../..
 cat
 [ ! -e rt-fails ] || { echo 'suspects NOT PROVED'; exit 1; }
 [ ! -e rt-leaves-nothing ] || exit 0
-mkdir -p target/bin && cp "$PROGRAM" target/bin/suspects
+mkdir -p crates/suspects/out && cp "$PROGRAM" crates/suspects/out/suspects
 END
 # The stand-in for the program: a sheet is the name of what to do.
 cat >"$work/program" <<'END'
@@ -80,7 +81,7 @@ two='sheet 2 1 2
 run answers.sheet
 ends 'the first run' 0 "$two"
 says 'the first run' 'proving and building' 'two minutes'
-same 'rt was called once' 'check suspects' "$(cat "$CALLS")"
+same 'rt was called once' 'run in suspects' "$(cat "$CALLS")"
 run answers.sheet
 ends 'the second run' 0 "$two"
 says 'the second run'
@@ -90,7 +91,7 @@ run answers.sheet
 ends 'after a change' 0 "$two"
 says 'after a change' 'proving and building'
 rm crates/words/lib.rt
-touch -t 200001010000 crates crates/words crates.txt
+touch -t 200001010000 crates crates/words crates/suspects crates.txt
 
 run no-objective.sheet
 ends 'no objective' 0 'sheet 1 0 0'
@@ -199,11 +200,11 @@ run answers.sheet
 ends 'a failed build' 2 ''
 says 'a failed build' 'suspects NOT PROVED' 'the build failed'
 rm rt-fails
-rm -f target/bin/suspects
+rm -f crates/suspects/out/suspects
 touch rt-leaves-nothing
 run answers.sheet
 ends 'a build without a program' 2 ''
-says 'a build without a program' 'left no target/bin/suspects'
+says 'a build without a program' 'left no crates/suspects/out/suspects'
 rm rt-leaves-nothing
 for tool in awk cat cut dirname find grep mkdir mktemp realpath rm sed sh tee wc; do ln -s "$(command -v "$tool")" "$work/tools/$tool"; done
 PATH=$work/tools ./suspects answers.sheet >"$work/out" 2>"$work/err"

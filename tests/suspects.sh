@@ -1,10 +1,10 @@
 #!/bin/sh
-# The program target/bin/suspects as it was built, and ./suspects with it. POSIX sh. Each sheet of sheets/ is answered once; half a minute.
+# The program crates/suspects/out/suspects as it was built, and ./suspects with it. POSIX sh. Each sheet of sheets/ is answered once; half a minute.
 # Needs cargo for the second program, and rt for ./suspects.
 set -u
 cd "$(dirname "$0")/.." || exit 2
 . tests/lib.sh
-program=target/bin/suspects
+program=crates/suspects/out/suspects
 sheet=$work/sheet
 tab=$(printf '\t')
 
@@ -46,7 +46,7 @@ meaning_of() {
 }
 
 if [ ! -x "$program" ]; then
-    fail "there is no $program: 'rt check suspects' makes it"
+    fail "there is no $program: 'rt run' in crates/suspects makes it"
     finish
 fi
 works 'the second program is built' cargo build --manifest-path second/Cargo.toml --release --offline --locked --quiet --bin expected
