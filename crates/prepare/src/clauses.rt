@@ -10,7 +10,7 @@ use sheet::bytes::word_at;
 use sheet::literal::{Literal, literal_of};
 
 // A set of literals, as a clause is one: the atoms that stand in it, and those that stand negated.
-#[derive(Drop)]
+#[derive(Clone, Copy)]
 pub struct Literals {
     pub plains: u64,
     pub negated: u64,

@@ -10,7 +10,7 @@ use sheet::bytes::{objectives, word_at};
 use sheet::literal::{Literal, literal_of};
 
 // How far the order is: the atoms that it names, and how many they are.
-#[derive(Drop)]
+#[derive(Clone, Copy)]
 pub struct Named {
     pub atoms: u64,
     pub count: usize,

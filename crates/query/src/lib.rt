@@ -17,7 +17,7 @@ use sheet::literal::is_literal;
 use walk::candidates::{Ending, Walked, walk_all};
 
 // What a query answers: the code, and the counts of the walk.
-#[derive(Drop)]
+#[derive(Clone, Copy)]
 pub struct Reply {
     pub code: u8,
     pub steps: u64,

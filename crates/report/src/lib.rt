@@ -17,7 +17,7 @@ use sheet::literal::{Literal, complement, literal_of};
 use text::{put, put_decimal, put_signed};
 
 // The first line of a sheet: how long it is, and what the check of the sheet answered.
-#[derive(Drop)]
+#[derive(Clone, Copy)]
 pub struct Opening {
     pub length: usize,
     pub checked: Checked,

@@ -14,7 +14,7 @@ use prepare::clauses::{Literals, with_literal};
 use sheet::literal::complement;
 
 // Why the candidate walk ends, if it does.
-#[derive(Drop)]
+#[derive(Clone, Copy)]
 pub enum Ending {
     Going,
     Affirmed(u64),
@@ -23,7 +23,7 @@ pub enum Ending {
 }
 
 // How far the candidate walk is. The stored parts stand in the first places of the lent store.
-#[derive(Drop)]
+#[derive(Clone, Copy)]
 pub struct Walked {
     pub steps: u64,
     pub tests: u64,

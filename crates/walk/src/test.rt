@@ -10,7 +10,7 @@ use prepare::clauses::{Literals, with_literal};
 use sheet::literal::complement;
 
 // How a test ended, with the steps so far: it found no full node, or one with this part, or the steps were spent.
-#[derive(Drop)]
+#[derive(Clone, Copy)]
 pub enum Tried {
     Missed(u64),
     Found(u64, u64),
