@@ -10,7 +10,7 @@ pub mod literal;
 mod refusals;
 
 // What the check of a sheet answers.
-#[derive(Drop)]
+#[derive(Clone, Copy)]
 pub enum Checked {
     // One of 10 to 15.
     Refused(u8),

@@ -4,7 +4,7 @@ ghost use Rattle.sheet.specs.Literals.{signed as signed_number, literal, is_lite
 ghost use Rattle.sheet.specs.Enums.{literal_answer};
 
 // What a byte is among the literals of some atoms.
-#[derive(Drop)]
+#[derive(Clone, Copy)]
 pub enum Literal {
     // A literal: whether it is the atom itself and not its negation, and the atom.
     Of(bool, u8),
@@ -12,6 +12,7 @@ pub enum Literal {
 }
 
 // The two's complement number of a byte.
+#[tactic(auto, using(crate::proofs::Numbers::small_signed, crate::proofs::Numbers::less_signed))]
 fn signed(b: u8) -> i8
     ensures { result ≡ signed_number b }
 {
