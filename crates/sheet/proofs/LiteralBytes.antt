@@ -69,9 +69,9 @@ complement_placed (neg a) r = r
 pub its_byte : (b : ℕ) {l : Lit} → is_literal 64 b ≡ true → literal b ≡ l → byte_of l ≡ b
 its_byte b lit is = ap byte_of (sym is) ∙ byte_of_literal b (literal_small 64 b (lit≤ tt) lit)
 
-pub is_literal : (l : Lit) → (1 ≤ atom l) × (atom l ≤ 64) → is_literal 64 (byte_of l) ≡ true
-is_literal (pos a) r = atom_literal a r.0 r.1
-is_literal (neg a) r = negation_literal (256 - a) (omega arith) (omega arith)
+pub byte_is_literal : (l : Lit) → (1 ≤ atom l) × (atom l ≤ 64) → is_literal 64 (byte_of l) ≡ true
+byte_is_literal (pos a) r = atom_literal a r.0 r.1
+byte_is_literal (neg a) r = negation_literal (256 - a) (omega arith) (omega arith)
 
 literal_byte : (l : Lit) → (1 ≤ atom l) × (atom l ≤ 64) → literal (byte_of l) ≡ l
 literal_byte (pos a) r = literal_low a (omega arith)

@@ -12,6 +12,7 @@ pub enum Literal {
 }
 
 // The two's complement number of a byte.
+#[tactic(auto, using(crate::proofs::Numbers::small_signed, crate::proofs::Numbers::less_signed))]
 fn signed(b: u8) -> i8
     ensures { result ≡ signed_number b }
 {
