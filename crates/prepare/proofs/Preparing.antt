@@ -11,7 +11,7 @@ use Rattle.prepare.specs.Carried.{negated, Placed, Readable, Prepared, Tables, p
 use Rattle.sheet.proofs.Answered.{Sized}
 use Rattle.sheet.proofs.Atoms.{objectives_literals, clauses_valued, valued_placed}
 use Rattle.sheet.proofs.EachOnce.{names_each_once}
-use Rattle.sheet.proofs.LiteralBytes.{is_literal, literals_of_bytes}
+use Rattle.sheet.proofs.LiteralBytes.{byte_is_literal, literals_of_bytes}
 use Rattle.sheet.proofs.Understood.{passed, atoms_are, clauses_counted, objective_bytes_counted}
 use Rattle.sheet.specs.Layout.{atom_count, clause_count, objective_bytes}
 use Rattle.sheet.specs.Literals.{Lit, atom, literal, is_literal, byte_of, plains}
@@ -28,7 +28,7 @@ module _ (s : List ℕ) (ok : Accepted s) where
   branch_placed l m = valued_placed s ok (atom l) ((names_each_once s ok).apart.only l m)
 
   branch_literal : (b : ℕ) → Mem b (map byte_of (branch (sheet_of s))) → is_literal 64 b ≡ true
-  branch_literal b m = let u = of_map byte_of (branch (sheet_of s)) m in ap (is_literal 64) (sym u.2) ∙ is_literal u.0 (branch_placed u.0 u.1)
+  branch_literal b m = let u = of_map byte_of (branch (sheet_of s)) m in ap (is_literal 64) (sym u.2) ∙ byte_is_literal u.0 (branch_placed u.0 u.1)
 
   branch_counted : length (map byte_of (branch (sheet_of s))) ≡ atom_count s
   branch_counted =

@@ -15,7 +15,7 @@ use Rattle.search.proofs.FairGame.{fair}
 use Rattle.search.proofs.Places.{places_full}
 use Rattle.search.proofs.Preferring.{Sensible, containment_sensible}
 use Rattle.search.proofs.Right.{tops_affirming, tops_denying, affirming_in, optimal_unbeaten, first_right}
-use Rattle.search.proofs.WellFormed.{WellFormed, well-formed}
+use Rattle.search.proofs.WellFormed.{WellFormed, well_formed}
 use Rattle.search.specs.Demands.{Possible, First, Demand2, Demand3}
 use Rattle.search.specs.Grown.{Rule, falsified, game, posed}
 use Rattle.search.specs.Models.{affirming, denying, Preference, containment}
@@ -143,5 +143,5 @@ module _ (rule : Rule) (closes : Closes rule) (p : Preference) (x : Sheet) (form
 pub kept_accepted : (s : List ℕ) → Accepted s → (b : ℕ) → is_literal (atom_count s) b ≡ true → (allowance places : ℕ)
     → Kept containment (sheet_of s) (literal b) allowance places (search (posed (sheet_of s) (literal b)) allowance places)
 kept_accepted s ok b lit =
-    let form = well-formed s ok in
+    let form = well_formed s ok in
     kept falsified falsified_closes containment (sheet_of s) form (containment_sensible (sheet_of s) form.few_objectives) (literal b) (literal_valued s ok b lit)

@@ -17,8 +17,8 @@ pub record WellFormed (x : Sheet) : Type 0 where
   pub clauses_in : (c : List Lit) (l : Lit) → Mem c x.clauses → Mem l c → Mem (atom l) (valued x)
   pub objectives_in : (l : Lit) → Mem l x.objectives → Mem (atom l) (valued x)
 
-pub well-formed : (s : List ℕ) → Accepted s → WellFormed (sheet_of s)
-well-formed s ok =
+pub well_formed : (s : List ℕ) → Accepted s → WellFormed (sheet_of s)
+well_formed s ok =
     let p = (passed s ok).sized in
     record {
       from_one = λ a h. (valued_placed s ok a h).0;
