@@ -13,15 +13,15 @@ pub loop-i-init : goal.loop-i-init
 unfolding plains negated set_of
 loop-i-init c = (omega arith, ap (λ (l : List ℕ). sets_of (map literal l)) (sym (drop-length c.args.bytes.now)))
 
-pub with_literal-requires : goal.with_literal-requires
-with_literal-requires c = all_out (is_literal 64) c.args.bytes.now c.requires _ (mem_at 0 c.args.bytes.now (c.loop-i.i - 1) (omega arith))
+pub with_literal-c-requires : goal.with_literal-c-requires
+with_literal-c-requires c = all_out (is_literal 64) c.args.bytes.now c.requires _ (mem_at 0 c.args.bytes.now (c.loop-i.i - 1) (omega arith))
 
 pub loop-i-preserved : goal.loop-i-preserved
 loop-i-preserved c =
     let bytes = c.args.bytes.now in
     let at : c.loop-i.i - 1 + 1 ≡ c.loop-i.i = omega arith in
     let front = onward 0 bytes (c.loop-i.i - 1) (omega arith) ∙ ap (λ (k : ℕ). byte bytes (c.loop-i.i - 1) ∷ drop k bytes) at in
-    (omega arith, c.with_literal.ensures (map literal (drop c.loop-i.i bytes)) c.loop-i.invariant.1 ∙ ap (λ (x : List ℕ). sets_of (map literal x)) (sym front))
+    (omega arith, c.with_literal-c.ensures (map literal (drop c.loop-i.i bytes)) c.loop-i.invariant.1 ∙ ap (λ (x : List ℕ). sets_of (map literal x)) (sym front))
 
 pub returns : goal.returns
 returns c =
