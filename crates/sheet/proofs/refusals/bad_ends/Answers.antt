@@ -16,19 +16,18 @@ pub returns-then-end-start : goal.returns-then-end-start
 returns-then-end-start c =
     found c.args.s.now c.word_at-clauses.ensures
     (c.loop-i.invariant.2
-        ∙ any_number (falls c.args.s.now) c.word_at-clauses.result c.loop-i.i c.loop-i-test.true
-        (ap₂ ltb (sym c.word_at-end.ensures) (sym c.loop-i.invariant.1) ∙ lt-ltb c.word_at-end.result c.loop-i.start c.if-end-start.true))
+    ∙ any_number (falls c.args.s.now) c.word_at-clauses.result c.loop-i.i c.loop-i-test.true
+    (ap₂ ltb (sym c.word_at-end.ensures) (sym c.loop-i.invariant.1) ∙ lt-ltb c.word_at-end.result c.loop-i.start (omega arith)))
     refl
 
 pub loop-i-preserved : goal.loop-i-preserved
-loop-i-preserved c =
-    (
-      omega arith,
-      c.word_at-end.ensures ∙ sym (start_next c.args.s.now c.loop-i.i),
-      c.loop-i.invariant.2
-          ∙ any_number (falls c.args.s.now) c.word_at-clauses.result c.loop-i.i c.loop-i-test.true
-          (ap₂ ltb (sym c.word_at-end.ensures) (sym c.loop-i.invariant.1) ∙ le-ltb c.word_at-end.result c.loop-i.start c.if-end-start.false),
-    )
+loop-i-preserved c = (
+  omega arith,
+  c.word_at-end.ensures ∙ sym (start_next c.args.s.now c.loop-i.i),
+  c.loop-i.invariant.2
+      ∙ any_number (falls c.args.s.now) c.word_at-clauses.result c.loop-i.i c.loop-i-test.true
+      (ap₂ ltb (sym c.word_at-end.ensures) (sym c.loop-i.invariant.1) ∙ le-ltb c.word_at-end.result c.loop-i.start (omega arith)),
+)
 
 -- no end of m clauses falls, where the loop has gone through them all
 none_falls : {m i : ℕ} (s : List ℕ) → m ≤ i → any (falls s) (below m) ≡ any (falls s) (drop i (below m)) → any (falls s) (below m) ≡ false

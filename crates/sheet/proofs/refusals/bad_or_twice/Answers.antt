@@ -17,22 +17,20 @@ unfolding bad_objective
 all-init c = (omega arith, refl, refl)
 
 pub loop-j-preserved : goal.loop-j-preserved
-loop-j-preserved c =
-    (
-      omega arith,
-      c.loop-j.invariant.1,
-      c.loop-j.invariant.2 ∙ any_number (same c.args.bytes.now c.all.i) c.all.i c.loop-j.j c.loop-j-test.true (ne_eqb _ _ c.if-bytes-j.false),
-    )
+loop-j-preserved c = (
+  omega arith,
+  c.loop-j.invariant.1,
+  c.loop-j.invariant.2 ∙ any_number (same c.args.bytes.now c.all.i) c.all.i c.loop-j.j c.loop-j-test.true (ne_eqb _ _ c.if-bytes-j.false),
+)
 
 pub all-preserved : goal.all-preserved
-all-preserved c =
-    (
-      omega arith,
-      c.loop-j.invariant.1,
-      c.all.invariant.2
-          ∙ next c.args.n c.args.bytes.now c.all.i c.all-test.true c.if-is_literal.ensures
-          (c.loop-j.invariant.2 ∙ any_numbers_end (same c.args.bytes.now c.all.i) c.all.i c.loop-j.j c.loop-j-test.false),
-    )
+all-preserved c = (
+  omega arith,
+  c.loop-j.invariant.1,
+  c.all.invariant.2
+      ∙ next c.args.n c.args.bytes.now c.all.i c.all-test.true c.if-is_literal.ensures
+      (c.loop-j.invariant.2 ∙ any_numbers_end (same c.args.bytes.now c.all.i) c.all.i c.loop-j.j c.loop-j-test.false),
+)
 
 pub returns-after-all : goal.returns-after-all
 returns-after-all c =
@@ -43,8 +41,8 @@ pub returns-then-bytes-j : goal.returns-then-bytes-j
 returns-then-bytes-j c =
     sym
     (c.all.invariant.2
-        ∙ next c.args.n c.args.bytes.now c.all.i c.all-test.true c.if-is_literal.ensures
-        (c.loop-j.invariant.2 ∙ any_number (same c.args.bytes.now c.all.i) c.all.i c.loop-j.j c.loop-j-test.true (eq-eqb _ _ c.if-bytes-j.true)))
+    ∙ next c.args.n c.args.bytes.now c.all.i c.all-test.true c.if-is_literal.ensures
+    (c.loop-j.invariant.2 ∙ any_number (same c.args.bytes.now c.all.i) c.all.i c.loop-j.j c.loop-j-test.true (eq-eqb _ _ c.if-bytes-j.true)))
 
 pub returns-else-is_literal : goal.returns-else-is_literal
 returns-else-is_literal c = sym (c.all.invariant.2 ∙ next c.args.n c.args.bytes.now c.all.i c.all-test.true c.if-is_literal.ensures refl)
