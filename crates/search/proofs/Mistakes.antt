@@ -32,8 +32,8 @@ C = sheet 2 [] (pos 1 ∷ [])
 -- ---- the wrong rules
 
 -- "Comparing numbers of objectives met"
-abbrev answer_by_number : Preference
-answer_by_number = record { worse = λ p q. ltb (length (pick (has p) (below 64))) (length (pick (has q) (below 64))); kept = λ os. os }
+abbrev by_number : Preference
+by_number = record { worse = λ p q. ltb (length (pick (has p) (below 64))) (length (pick (has q) (below 64))); kept = λ os. os }
 
 -- "Accepting a test's full node with an equal part"
 abbrev or_equal : Preference
@@ -57,7 +57,7 @@ second_child_first x q =
 abbrev answer_of : Game → Answer
 answer_of g = answered (searched g 100 4)
 
-pub wrong_answers : map answer_of (game falsified answer_by_number A (neg 3) ∷ game falsified or_equal C (neg 2) ∷ first_affirming B (neg 2) ∷ second_child_first C (pos 1) ∷ []) ≡ (No ∷ No ∷ Yes 0 ∷ Yes 1 ∷ [])
+pub wrong_answers : map answer_of (game falsified by_number A (neg 3) ∷ game falsified or_equal C (neg 2) ∷ first_affirming B (neg 2) ∷ second_child_first C (pos 1) ∷ []) ≡ (No ∷ No ∷ Yes 0 ∷ Yes 1 ∷ [])
 unfolding searched judge test meet visit store game grow falsified plains set_of adding has within strictly_within branch taking part value below
 wrong_answers = refl
 
