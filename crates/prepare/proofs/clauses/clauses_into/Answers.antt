@@ -89,9 +89,9 @@ loop-i-preserved c =
       length-set l.plains l.i c.clause_of-c.result.plains ∙ l.invariant.2,
       length-set l.negated l.i c.clause_of-c.result.negated ∙ l.invariant.3,
       ap (λ (xs : List ℕ). set xs l.i c.clause_of-c.result.plains) l.invariant.4
-      ∙ next_set plain_atoms a.s.now a.plains.now l.i c.clause_of-c.result.plains (ap (λ (w : Literals). w.plains) clause) (omega (arith, n.at, c.requires.s_in_bounds.0)),
+          ∙ next_set plain_atoms a.s.now a.plains.now l.i c.clause_of-c.result.plains (ap (λ (w : Literals). w.plains) clause) (omega (arith, n.at, c.requires.s_in_bounds.0)),
       ap (λ (xs : List ℕ). set xs l.i c.clause_of-c.result.negated) l.invariant.5
-      ∙ next_set negated_atoms a.s.now a.negated.now l.i c.clause_of-c.result.negated (ap (λ (w : Literals). w.negated) clause) (omega (arith, n.at, c.requires.s_in_bounds.1)),
+          ∙ next_set negated_atoms a.s.now a.negated.now l.i c.clause_of-c.result.negated (ap (λ (w : Literals). w.negated) clause) (omega (arith, n.at, c.requires.s_in_bounds.1)),
     )
 
 pub returns-clause-plains_after : goal.returns-clause-plains_after

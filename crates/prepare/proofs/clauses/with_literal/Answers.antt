@@ -1,5 +1,5 @@
 -- `prepare::clauses::with_literal`: the atom goes into the set of the literal's sign. Assumes nothing.
-use Rattle.std.proofs.Common.{ℕ, Bool, true, false, cond, ◌∷◌, ◌≡◌, ◌<◌, sym, ap, ◌∙◌, arith}
+use Rattle.std.proofs.Common.{ℕ, Bool, true, cond, ◌∷◌, ◌≡◌, ◌<◌, sym, ap, ◌∙◌, arith}
 use Rattle.prepare.proofs.SetLaws.{with_plain, with_negated}
 use Rattle.prepare.proofs.clauses.with_literal.Goals as goal
 use Rattle.prepare.specs.Carried.{sets_of}

@@ -1,5 +1,5 @@
 -- `sheet::refusals::any_bad`: a step of the loop is a step of the test over the bytes. Assumes nothing.
-use Rattle.std.proofs.Common.{false, not, sym, ap, ◌∙◌, arith}
+use Rattle.std.proofs.Common.{not, sym, ap, ◌∙◌, arith}
 use Rattle.sheet.proofs.refusals.any_bad.Goals as goal
 use Rattle.sheet.specs.Reading.{no_literal}
 use Rattle.words.proofs.Lists.{any_next, any_end}
