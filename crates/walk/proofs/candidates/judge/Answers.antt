@@ -1,0 +1,42 @@
+-- The scan is the pass-over rule, the call is the test, and settling is that of the definition. Assumes nothing.
+use Rattle.std.proofs.Common.{◌≡◌, ℕ, [], ◌∷◌, List, map, length, refl, sym, ap, ◌∙◌}
+use mathlib.Core.List.Memᴰ.{not-nil}
+use Rattle.prepare.specs.Carried.{Prepared}
+use Rattle.search.specs.Models.{holds, part}
+use Rattle.search.specs.Search.{settle, with_test}
+use Rattle.sheet.specs.Literals.{literal, complement}
+use Rattle.sheet.specs.Reading.{Sheet}
+use Rattle.walk.proofs.Judging.{root_is, judge_passed, judge_tests, conditions_placed}
+use Rattle.walk.proofs.candidates.judge.Goals as goal
+use Rattle.walk.specs.Carried.{test_below, state_of, ended_as}
+use Rattle.walk.specs.declared.candidates.Ending.{Ending}
+use Rattle.words.specs.Lists.{pick}
+
+-- the part that the code has found is that of the model
+its_part : (x : Sheet) (o os ps ns : List ℕ) (m : ℕ) {p : ℕ} → Prepared x o os ps ns → p ≡ part (map literal os) m → p ≡ part x.objectives m
+its_part x o os ps ns m is e = e ∙ ap (λ us. part us m) is.objectives
+
+pub returns-then-passed_over-clause-tells_judged : goal.returns-then-passed_over-clause-tells_judged
+returns-then-passed_over-clause-tells_judged c x is =
+    let a = c.args in
+    ap (λ (e : Ending). ended_as e (state_of a.w a.store.now)) c.requires.question_value.1.1.1
+    ∙ sym (judge_passed x (literal a.question) a.allowance (length a.store.now) a.model (state_of a.w a.store.now)
+    (its_part x a.order.now a.objectives.now a.plains.now a.negated.now a.model is c.part_of-part.ensures) (sym c.passed_over.ensures ∙ c.if-passed_over.true))
+
+pub returns-clause-tells_judged : goal.returns-clause-tells_judged
+returns-clause-tells_judged c x is =
+    let a = c.args in
+    let us = complement (literal a.question) ∷ pick (holds a.model) (map literal a.objectives.now) in
+    let its = its_part x a.order.now a.objectives.now a.plains.now a.negated.now a.model is c.part_of-part.ensures in
+    c.settle.ensures.tells_settled (with_test (state_of a.w a.store.now)) refl refl
+    ∙ ap (settle (length a.store.now) a.model (with_test (state_of a.w a.store.now)))
+    (c.seek-tried.ensures.tells_test x.clauses us []
+    (record {
+      clauses = is.clauses;
+      banned = c.ban_of-ban.ensures;
+      conditions = conditions_placed a.objectives.now a.model a.question c.requires.readable.objectives c.requires.question_value.0;
+      made = root_is;
+      decided = λ l h. absurd (not-nil h);
+    })
+    ∙ (λ i. test_below x.clauses (complement (literal a.question) ∷ pick (holds a.model) (is.objectives i)) (is.objectives i) (is.order i) [] (its i) a.allowance a.w.steps))
+    ∙ sym (judge_tests x (literal a.question) a.allowance (length a.store.now) a.model (state_of a.w a.store.now) its (sym c.passed_over.ensures ∙ c.if-passed_over.false))
