@@ -1,5 +1,5 @@
 -- `query::ask`: each return is the result by the row of the table that applies first; the demands follow from it. Assumes nothing.
-use Rattle.std.proofs.Common.{ℕ, Bool, true, not, List, ◌≡◌, length, refl, sym, ap, ◌∙◌, subst, arith}
+use Rattle.std.proofs.Common.{ℕ, Bool, not, List, ◌≡◌, length, refl, sym, ap, ◌∙◌, subst, arith}
 use borrow.Author.Tests.{not-false, lt-ltb, le-ltb}
 use Rattle.prepare.proofs.Preparing.{prepared, readable}
 use Rattle.prepare.specs.Carried.{Readable, Prepared, Tables}

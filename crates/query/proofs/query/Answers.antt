@@ -1,5 +1,5 @@
 -- `query::query`: a refused sheet's own number, or else what is asked of its tables. Assumes nothing.
-use Rattle.std.proofs.Common.{ℕ, List, ◌≡◌, length, take, sym, ◌∙◌}
+use Rattle.std.proofs.Common.{length, sym, ◌∙◌}
 use Rattle.prepare.proofs.Preparing.{read_tables, order_counted}
 use Rattle.query.proofs.Checking.{refused_checked}
 use Rattle.query.proofs.Promises.{as_checked}

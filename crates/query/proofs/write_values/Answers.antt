@@ -1,9 +1,8 @@
 -- `query::write_values`: one byte more is one value more. Assumes nothing.
-use Rattle.std.proofs.Common.{ℕ, List, ◌≡◌, refl, sym, ap, ◌∙◌, arith}
+use Rattle.std.proofs.Common.{ℕ, List, refl, sym, ap, ◌∙◌, arith}
 use Rattle.std.proofs.Math.ListN.{set, length-set}
 use Rattle.query.proofs.Leaving.{no_values, next_value}
 use Rattle.query.proofs.write_values.Goals as goal
-use Rattle.query.specs.Query.{values_of}
 use Rattle.words.specs.Lists.{over}
 
 pub loop-i-init : goal.loop-i-init
@@ -15,5 +14,5 @@ loop-i-preserved c =
       omega arith,
       length-set l.witness l.i c.value_byte.result ∙ l.invariant.1,
       ap (λ (xs : List ℕ). set xs l.i c.value_byte.result) l.invariant.2
-      ∙ next_value c.args.model c.args.witness.now l.i c.value_byte.ensures (omega (arith, c.requires.1)),
+          ∙ next_value c.args.model c.args.witness.now l.i c.value_byte.ensures (omega (arith, c.requires.1)),
     )
