@@ -58,9 +58,9 @@ fn clause_of(bytes: &[u8]) -> Literals
 // The two sets of each clause, into the first places of the lent words.
 pub fn clauses_into(s: &[u8], plains: &mut [u64], negated: &mut [u64])
     requires accepted { Accepted s.now }
-    requires s_in_bounds { (clause_count s.now ≤ length plains.old) × (clause_count s.now ≤ length negated.old) }
-    ensures plains_after { plains.new ≡ over (map plain_atoms (sheet_of s.now).clauses) plains.old }
-    ensures negated_after { negated.new ≡ over (map negated_atoms (sheet_of s.now).clauses) negated.old }
+    requires room { (clause_count s.now ≤ length plains.old) × (clause_count s.now ≤ length negated.old) }
+    ensures plains { plains.new ≡ over (map plain_atoms (sheet_of s.now).clauses) plains.old }
+    ensures negated { negated.new ≡ over (map negated_atoms (sheet_of s.now).clauses) negated.old }
 {
     let clauses = word_at(s, 4) as usize;
     let literals_at = 32 + 4 * clauses;

@@ -70,7 +70,7 @@ fn take_atoms(order: &mut [u8], begun: Named, n: u8) -> Named
 // The branch order of an accepted sheet, a literal byte for each atom, into the first places of the lent bytes.
 pub fn branch_order(s: &[u8], order: &mut [u8])
     requires accepted { Accepted s.now }
-    requires in_bounds { 128 ≤ length order.old }
+    requires room { 128 ≤ length order.old }
     ensures { order.new ≡ over (map byte_of (branch (sheet_of s.now))) order.old }
 {
     let begun = take_objectives(order, objectives(s));

@@ -87,8 +87,8 @@ fn show(ending: Ending, n: usize, witness: &mut [u8])
 // The reply of a walk that has ended, and the witness on a yes.
 fn finish(w: Walked, n: usize, witness: &mut [u8]) -> Reply
     requires { (n ≤ 64) × (n ≤ length witness.old) }
-    ensures r_value { result ≡ reply_of (code_of (answer_of w.ending)) w.steps w.tests w.stored }
-    ensures witness_after { witness.new ≡ witnessed (answer_of w.ending) n witness.old }
+    ensures reply { result ≡ reply_of (code_of (answer_of w.ending)) w.steps w.tests w.stored }
+    ensures witness { witness.new ≡ witnessed (answer_of w.ending) n witness.old }
 {
     let ending = w.ending;
     show(ending, n, witness);

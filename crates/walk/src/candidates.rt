@@ -116,7 +116,7 @@ fn judge(
     store: &mut [u64],
 ) -> Walked
     requires readable { Readable order.now objectives.now plains.now negated.now }
-    requires question_value { (is_literal 64 question ≡ true) × ((w.tests < w.steps) × ((w.stored ≤ length store.old) × (w.ending ≡ going))) }
+    requires begun { (is_literal 64 question ≡ true) × ((w.tests < w.steps) × ((w.stored ≤ length store.old) × (w.ending ≡ going))) }
     ensures tells_judged { TellsJudged order.now objectives.now plains.now negated.now question allowance model w result store.old store.new }
     ensures onward { Onward w.stored result store.old store.new }
 {
@@ -152,7 +152,7 @@ pub fn roam(
     store: &mut [u64],
 ) -> Walked
     requires readable { Readable order.now objectives.now plains.now negated.now }
-    requires question_value { (is_literal 64 question ≡ true) × ((InBounds w store.old) × (w.ending ≡ going)) }
+    requires begun { (is_literal 64 question ≡ true) × ((InBounds w store.old) × (w.ending ≡ going)) }
     ensures tells_roamed { TellsRoamed order.now objectives.now plains.now negated.now depth question allowance ban node w result store.old store.new }
     ensures onward { Onward w.stored result store.old store.new }
 {
@@ -232,7 +232,7 @@ pub fn walk_all(
     store: &mut [u64],
 ) -> Walked
     requires readable { Readable order.now objectives.now plains.now negated.now }
-    requires question_value { is_literal 64 question ≡ true }
+    requires question { is_literal 64 question ≡ true }
     ensures tells_searched { TellsSearched order.now objectives.now plains.now negated.now question allowance result store.old store.new }
     ensures onward { Onward 0 result store.old store.new }
 {

@@ -13,8 +13,8 @@ once_read e f before = ap (λ (x : Reading). tabled f x before) (sym e)
 pub clauses_into-requires-clause-accepted : goal.clauses_into-requires-clause-accepted
 clauses_into-requires-clause-accepted c = (answered_accepted _ (sym c.in-Sizes.is ∙ c.check-checked.ensures)).accepted
 
-pub clauses_into-requires-clause-s_in_bounds : goal.clauses_into-requires-clause-s_in_bounds
-clauses_into-requires-clause-s_in_bounds c =
+pub clauses_into-requires-clause-room : goal.clauses_into-requires-clause-room
+clauses_into-requires-clause-room c =
     let most = (passed _ (answered_accepted _ (sym c.in-Sizes.is ∙ c.check-checked.ensures)).accepted).sized.counted.clauses in
     (omega (arith, most), omega (arith, most))
 
@@ -22,10 +22,10 @@ pub branch_order-requires-clause-accepted : goal.branch_order-requires-clause-ac
 branch_order-requires-clause-accepted c = (answered_accepted _ (sym c.in-Sizes.is ∙ c.check-checked.ensures)).accepted
 
 pub returns-in-Sizes-clause-plains : goal.returns-in-Sizes-clause-plains
-returns-in-Sizes-clause-plains c = c.clauses_into.ensures.plains_after ∙ once_read (answered_accepted _ (sym c.in-Sizes.is ∙ c.check-checked.ensures)).accepted _ _
+returns-in-Sizes-clause-plains c = c.clauses_into.ensures.plains ∙ once_read (answered_accepted _ (sym c.in-Sizes.is ∙ c.check-checked.ensures)).accepted _ _
 
 pub returns-in-Sizes-clause-negated : goal.returns-in-Sizes-clause-negated
-returns-in-Sizes-clause-negated c = c.clauses_into.ensures.negated_after ∙ once_read (answered_accepted _ (sym c.in-Sizes.is ∙ c.check-checked.ensures)).accepted _ _
+returns-in-Sizes-clause-negated c = c.clauses_into.ensures.negated ∙ once_read (answered_accepted _ (sym c.in-Sizes.is ∙ c.check-checked.ensures)).accepted _ _
 
 pub returns-in-Sizes-clause-order : goal.returns-in-Sizes-clause-order
 returns-in-Sizes-clause-order c = c.branch_order.ensures ∙ once_read (answered_accepted _ (sym c.in-Sizes.is ∙ c.check-checked.ensures)).accepted _ _

@@ -61,8 +61,8 @@ objectives-requires c = (passed _ c.requires.accepted).sized
 pub walk_all-w-requires-clause-readable : goal.walk_all-w-requires-clause-readable
 walk_all-w-requires-clause-readable c = (reads c.requires c.objectives.ensures).0
 
-pub walk_all-w-requires-clause-question_value : goal.walk_all-w-requires-clause-question_value
-walk_all-w-requires-clause-question_value c =
+pub walk_all-w-requires-clause-question : goal.walk_all-w-requires-clause-question
+walk_all-w-requires-clause-question c =
     let s = c.args.sheet.now in
     let none = none_asked s c.args.question c.word_at-n.ensures c.is_literal.ensures in
     more_atoms (atom_count s) c.args.question (passed _ c.requires.accepted).sized.counted.atoms (not-false _ (none ∙ ap not c.if-not-is_literal.false))
@@ -79,7 +79,7 @@ returns c =
     let room = le-ltb (length a.witness.now) (atom_count s) (omega (arith, c.if-witness-n.false, c.word_at-n.ensures)) in
     let w = c.walk_all-w in
     let k = as_checked s a.question a.allowance a.store.now a.witness.now (understood (sheet_of s))
-    ((λ i. outcome (c.finish.ensures.r_value i) w.new.store (c.finish.ensures.witness_after i))
+    ((λ i. outcome (c.finish.ensures.reply i) w.new.store (c.finish.ensures.witness i))
     ∙ walk_leaves w.result _ a.store.now w.new.store a.witness.now w.ensures.onward
     ∙ (λ i. after_walk (n i) (w.ensures.tells_searched (sheet_of s) (reads c.requires c.objectives.ensures).1 i) a.store.now a.witness.now))
     (accepted_checked s a.question (length a.witness.now) c.requires.accepted (none ∙ ap not c.if-not-is_literal.false) room) in

@@ -89,19 +89,19 @@ loop-i-preserved c =
       length-set l.plains l.i c.clause_of-c.result.plains ∙ l.invariant.2,
       length-set l.negated l.i c.clause_of-c.result.negated ∙ l.invariant.3,
       ap (λ (xs : List ℕ). set xs l.i c.clause_of-c.result.plains) l.invariant.4
-          ∙ next_set plain_atoms a.s.now a.plains.now l.i c.clause_of-c.result.plains (ap (λ (w : Literals). w.plains) clause) (omega (arith, n.at, c.requires.s_in_bounds.0)),
+          ∙ next_set plain_atoms a.s.now a.plains.now l.i c.clause_of-c.result.plains (ap (λ (w : Literals). w.plains) clause) (omega (arith, n.at, c.requires.room.0)),
       ap (λ (xs : List ℕ). set xs l.i c.clause_of-c.result.negated) l.invariant.5
-          ∙ next_set negated_atoms a.s.now a.negated.now l.i c.clause_of-c.result.negated (ap (λ (w : Literals). w.negated) clause) (omega (arith, n.at, c.requires.s_in_bounds.1)),
+          ∙ next_set negated_atoms a.s.now a.negated.now l.i c.clause_of-c.result.negated (ap (λ (w : Literals). w.negated) clause) (omega (arith, n.at, c.requires.room.1)),
     )
 
-pub returns-clause-plains_after : goal.returns-clause-plains_after
+pub returns-clause-plains : goal.returns-clause-plains
 unfolding sheet_of
-returns-clause-plains_after c =
+returns-clause-plains c =
     let all : c.loop-i.i ≡ clause_count c.args.s.now = (let last : c.loop-i.i ≡ c.word_at-clauses.result = omega arith in last) ∙ c.word_at-clauses.ensures in
     c.loop-i.invariant.4 ∙ ap (λ (i : ℕ). over (first_sets plain_atoms c.args.s.now i) c.args.plains.now) all
 
-pub returns-clause-negated_after : goal.returns-clause-negated_after
+pub returns-clause-negated : goal.returns-clause-negated
 unfolding sheet_of
-returns-clause-negated_after c =
+returns-clause-negated c =
     let all : c.loop-i.i ≡ clause_count c.args.s.now = (let last : c.loop-i.i ≡ c.word_at-clauses.result = omega arith in last) ∙ c.word_at-clauses.ensures in
     c.loop-i.invariant.5 ∙ ap (λ (i : ℕ). over (first_sets negated_atoms c.args.s.now i) c.args.negated.now) all

@@ -1,17 +1,10 @@
 -- `prepare::clauses::with_literal`: the atom goes into the set of the literal's sign. Assumes nothing.
-use Rattle.std.proofs.Common.{ℕ, Bool, true, cond, ◌∷◌, ◌≡◌, ◌<◌, sym, ap, ◌∙◌, arith}
-use Rattle.prepare.proofs.SetLaws.{with_plain, with_negated}
+use Rattle.std.proofs.Common.{ℕ, Bool, cond, ◌∷◌, ◌≡◌, sym, ap, ◌∙◌, arith}
+use Rattle.prepare.proofs.SetLaws.{told, with_plain, with_negated}
 use Rattle.prepare.proofs.clauses.with_literal.Goals as goal
 use Rattle.prepare.specs.Carried.{sets_of}
-use Rattle.sheet.proofs.Numbers.{Told, told_of, told_literal}
-use Rattle.sheet.specs.Enums.{literal_answer}
-use Rattle.sheet.specs.Literals.{Lit, pos, neg, literal, is_literal}
-use Rattle.sheet.specs.declared.literal.Literal.TheVariants.{Of}
-use Rattle.sheet.specs.declared.literal.Literal.{Literal}
-
--- what the answer of `literal_of` says of the byte
-told : (b : ℕ) → b < 256 → is_literal 64 b ≡ true → {r : Literal} → r ≡ literal_answer 64 b → {p : Bool} {a : ℕ} → r ≡ Of p a → Told 64 b p a
-told b = told_of 64 b (omega arith)
+use Rattle.sheet.proofs.Numbers.{Told, told_literal}
+use Rattle.sheet.specs.Literals.{Lit, pos, neg, literal}
 
 of_sign : {b : ℕ} {p : Bool} {a : ℕ} → Told 64 b p a → {q : Bool} → p ≡ q → literal b ≡ cond q (pos a) (neg a)
 of_sign {a = a} t e = told_literal t ∙ ap (λ (x : Bool). cond x (pos a) (neg a)) e

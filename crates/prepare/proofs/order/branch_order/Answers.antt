@@ -16,7 +16,7 @@ pub take_objectives-begun-requires : goal.take_objectives-begun-requires
 take_objectives-begun-requires c =
     let p = (passed _ c.requires.accepted).sized in (
       ap (all (is_literal 64)) c.objectives.ensures ∙ objectives_literals _ c.requires.accepted,
-      omega (arith, c.requires.in_bounds, ap length c.objectives.ensures ∙ objective_bytes_counted _ p, p.counted.objectives),
+      omega (arith, c.requires.room, ap length c.objectives.ensures ∙ objective_bytes_counted _ p, p.counted.objectives),
     )
 
 pub word_at-requires : goal.word_at-requires
@@ -29,7 +29,7 @@ pub take_atoms-requires : goal.take_atoms-requires
 take_atoms-requires c =
     let p = (passed _ c.requires.accepted).sized in (
       omega (arith, p.counted.atoms, c.word_at.ensures),
-      omega (arith, p.counted.atoms, c.word_at.ensures, c.take_objectives-begun.ensures.room, ap length c.objectives.ensures ∙ objective_bytes_counted _ p, p.counted.objectives, c.requires.in_bounds),
+      omega (arith, p.counted.atoms, c.word_at.ensures, c.take_objectives-begun.ensures.room, ap length c.objectives.ensures ∙ objective_bytes_counted _ p, p.counted.objectives, c.requires.room),
     )
 
 pub returns : goal.returns

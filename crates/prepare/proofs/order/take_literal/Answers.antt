@@ -1,18 +1,12 @@
 -- `prepare::order::take_literal`: the set tells whether the order names the literal's atom. Assumes nothing.
-use Rattle.std.proofs.Common.{ℕ, Bool, true, ◌≡◌, ◌≤◌, ◌<◌, ◌-◌, sym, ap, ◌∙◌, subst, arith}
+use Rattle.std.proofs.Common.{ℕ, Bool, ◌≡◌, ◌≤◌, ◌-◌, sym, ap, ◌∙◌, subst, arith}
 use Rattle.prepare.proofs.OrderLaws.{keeps, puts}
+use Rattle.prepare.proofs.SetLaws.{told}
 use Rattle.prepare.proofs.order.take_literal.Goals as goal
 use Rattle.sheet.proofs.Literals.{byte_of_literal}
-use Rattle.sheet.proofs.Numbers.{Told, told_of}
-use Rattle.sheet.specs.Enums.{literal_answer}
-use Rattle.sheet.specs.Literals.{atom, literal, is_literal}
-use Rattle.sheet.specs.declared.literal.Literal.TheVariants.{Of}
-use Rattle.sheet.specs.declared.literal.Literal.{Literal}
+use Rattle.sheet.proofs.Numbers.{Told}
+use Rattle.sheet.specs.Literals.{atom, literal}
 use Rattle.words.specs.Positions.{has, adding}
-
--- what the answer of `literal_of` says of the byte
-told : (b : ℕ) → b < 256 → is_literal 64 b ≡ true → {r : Literal} → r ≡ literal_answer 64 b → {p : Bool} {a : ℕ} → r ≡ Of p a → Told 64 b p a
-told b = told_of 64 b (omega arith)
 
 some : {b : ℕ} {p : Bool} {a : ℕ} → Told 64 b p a → 1 ≤ atom (literal b)
 some t = subst (λ (a : ℕ). 1 ≤ a) t.distance t.some

@@ -19,7 +19,7 @@ its_part x o os ps ns m is e = e ∙ ap (λ us. part us m) is.objectives
 pub returns-then-passed_over-clause-tells_judged : goal.returns-then-passed_over-clause-tells_judged
 returns-then-passed_over-clause-tells_judged c x is =
     let a = c.args in
-    ap (λ (e : Ending). ended_as e (state_of a.w a.store.now)) c.requires.question_value.1.1.1
+    ap (λ (e : Ending). ended_as e (state_of a.w a.store.now)) c.requires.begun.1.1.1
     ∙ sym (judge_passed x (literal a.question) a.allowance (length a.store.now) a.model (state_of a.w a.store.now)
     (its_part x a.order.now a.objectives.now a.plains.now a.negated.now a.model is c.part_of-part.ensures) (sym c.passed_over.ensures ∙ c.if-passed_over.true))
 
@@ -34,7 +34,7 @@ returns-clause-tells_judged c x is =
     (record {
       clauses = is.clauses;
       banned = c.ban_of-ban.ensures;
-      conditions = conditions_placed a.objectives.now a.model a.question c.requires.readable.objectives c.requires.question_value.0;
+      conditions = conditions_placed a.objectives.now a.model a.question c.requires.readable.objectives c.requires.begun.0;
       made = root_is;
       decided = λ l h. absurd (not-nil h);
     })

@@ -18,7 +18,7 @@ returns-clause-tells_searched c x is =
     (record {
       clauses = is.clauses;
       banned = c.with_literal.ensures [] root_is ∙ ap (λ (l : Lit). sets_of (l ∷ [])) c.complement.ensures.1;
-      conditions = question_placed a.question c.requires.question_value;
+      conditions = question_placed a.question c.requires.question;
       made = root_is;
       decided = λ l h. absurd (not-nil h);
     })
