@@ -1,25 +1,15 @@
 -- The two sets of atoms of each clause: one literal more, and a list that is filled with them. Assumes nothing.
 use Prim.Native.Nat.{ℕ, ◌+◌, ◌-◌, ◌<◌}
-use mathlib.Core.Bool.{Bool, true}
 use mathlib.Core.List.{List, [], ◌∷◌, ◌++◌, map, map-append}
 use mathlib.Core.Path.{◌≡◌, refl, sym, ap, ◌∙◌}
-use native.Mathlib.Omega.{arith}
 use lib.ListN.{length, set, length-map}
 use Rattle.prepare.specs.Carried.{negated, sets_of}
 use Rattle.prepare.specs.declared.clauses.Literals.{Literals}
-use Rattle.sheet.proofs.Numbers.{Told, told_of}
-use Rattle.sheet.specs.Enums.{literal_answer}
 use Rattle.sheet.specs.Layout.{clause_bytes}
-use Rattle.sheet.specs.Literals.{Lit, pos, neg, literal, is_literal, plains}
-use Rattle.sheet.specs.declared.literal.Literal.TheVariants.{Of}
-use Rattle.sheet.specs.declared.literal.Literal.{Literal}
+use Rattle.sheet.specs.Literals.{Lit, pos, neg, literal, plains}
 use Rattle.words.proofs.Lists.{length_below, put_over, map_below_next}
 use Rattle.words.specs.Lists.{over, below}
 use Rattle.words.specs.Positions.{adding, set_of}
-
--- what the answer of `literal_of` says of the byte
-pub told : (b : ℕ) → b < 256 → is_literal 64 b ≡ true → {r : Literal} → r ≡ literal_answer 64 b → {p : Bool} {a : ℕ} → r ≡ Of p a → Told 64 b p a
-told b = told_of 64 b (omega arith)
 
 -- ---- one literal more in a clause's two sets
 

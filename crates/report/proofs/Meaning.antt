@@ -16,14 +16,14 @@ use Rattle.search.proofs.Nodes.{complement_atom, holds_complement, complement_tr
 use Rattle.search.specs.Demands.{Demand2}
 use Rattle.search.specs.Models.{holds, containment, Optimal}
 use Rattle.sheet.proofs.Atoms.{objective_literal, objectives_literals}
-use Rattle.sheet.proofs.LiteralBytes.{complement_literal, complement_is_literal, its_byte}
+use Rattle.sheet.proofs.LiteralBytes.{entry_is_literal, complement_literal, complement_is_literal, its_byte}
 use Rattle.sheet.proofs.Literals.{literal_atom, literal_small}
 use Rattle.sheet.proofs.Understood.{passed}
 use Rattle.sheet.specs.Layout.{atom_count, byte, objective_bytes}
 use Rattle.sheet.specs.Literals.{Lit, atom, complement, literal, between, is_literal, byte_of}
 use Rattle.sheet.specs.Reading.{Reading, understood, sheet_of, Accepted}
 use Rattle.words.proofs.Bools.{refuted}
-use Rattle.words.proofs.Members.{all_out, mem_at}
+use Rattle.words.proofs.Members.{mem_at}
 use Rattle.words.specs.Lists.{over}
 
 module _ (s : List ℕ) (ok : Accepted s) (i : ℕ) (there : i < length (objective_bytes s)) where
@@ -34,7 +34,7 @@ module _ (s : List ℕ) (ok : Accepted s) (i : ℕ) (there : i < length (objecti
   objective = literal b
 
   pub objective_is_literal : is_literal 64 b ≡ true
-  objective_is_literal = all_out (is_literal 64) (objective_bytes s) (objectives_literals s ok) _ (mem_at 0 (objective_bytes s) i there)
+  objective_is_literal = entry_is_literal (objective_bytes s) i (objectives_literals s ok) there
 
   -- the byte that is asked about, and that it stands for the objective's complement
   asked_byte : byte_of (complement objective) ≡ 255 - b + 1

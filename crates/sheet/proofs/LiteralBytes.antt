@@ -8,9 +8,17 @@ use mathlib.Core.Logic.{⊎_elim}
 use mathlib.Core.Path.{◌≡◌, refl, sym, ap, ap₂, ◌∙◌, subst}
 use native.Mathlib.Omega.{arith}
 use lib.Dec.{lit≤}
+use lib.ListN.{length}
 use Rattle.sheet.proofs.Literals.{between_says, literal_low, literal_high, literal_small, byte_of_literal, atom_literal, negation_literal}
+use Rattle.sheet.specs.Layout.{byte}
 use Rattle.sheet.specs.Literals.{Lit, pos, neg, atom, literal, between, is_literal, byte_of, complement}
 use Rattle.words.proofs.Bools.{or_cases}
+use Rattle.words.proofs.Members.{all_out, mem_at}
+use Rattle.words.specs.Lists.{all}
+
+-- an entry of a list of literal bytes is one
+pub entry_is_literal : (bs : List ℕ) (i : ℕ) → all (is_literal 64) bs ≡ true → i < length bs → is_literal 64 (byte bs i) ≡ true
+entry_is_literal bs i each there = all_out (is_literal 64) bs each (byte bs i) (mem_at 0 bs i there)
 
 -- a literal byte is an atom, or the negation of one, counted back from 256: what decodes a byte without `literal_of` stands on this
 pub data Halves (b : ℕ) : Type 0 where

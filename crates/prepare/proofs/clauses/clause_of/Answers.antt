@@ -4,9 +4,9 @@ use Rattle.std.proofs.Math.Seq.{drop-length}
 use Rattle.prepare.proofs.clauses.clause_of.Goals as goal
 use Rattle.prepare.specs.Carried.{sets_of, negated}
 use Rattle.sheet.specs.Layout.{byte}
-use Rattle.sheet.specs.Literals.{literal, is_literal, plains}
+use Rattle.sheet.specs.Literals.{literal, plains}
 use Rattle.words.proofs.Lists.{onward}
-use Rattle.words.proofs.Members.{all_out, mem_at}
+use Rattle.sheet.proofs.LiteralBytes.{entry_is_literal}
 use Rattle.words.specs.Positions.{set_of}
 
 pub loop-i-init : goal.loop-i-init
@@ -14,7 +14,7 @@ unfolding plains negated set_of
 loop-i-init c = (omega arith, ap (λ (l : List ℕ). sets_of (map literal l)) (sym (drop-length c.args.bytes.now)))
 
 pub with_literal-c-requires : goal.with_literal-c-requires
-with_literal-c-requires c = all_out (is_literal 64) c.args.bytes.now c.requires _ (mem_at 0 c.args.bytes.now (c.loop-i.i - 1) (omega arith))
+with_literal-c-requires c = entry_is_literal c.args.bytes.now (c.loop-i.i - 1) c.requires (omega arith)
 
 pub loop-i-preserved : goal.loop-i-preserved
 loop-i-preserved c =

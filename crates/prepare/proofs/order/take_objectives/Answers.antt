@@ -4,16 +4,16 @@ use Rattle.std.proofs.Math.Seq.{take_all}
 use Rattle.prepare.proofs.OrderLaws.{nothing_ordered, taking_next}
 use Rattle.prepare.proofs.order.take_objectives.Goals as goal
 use Rattle.prepare.specs.Carried.{Ordered}
-use Rattle.sheet.specs.Literals.{Lit, literal, is_literal}
+use Rattle.sheet.specs.Literals.{Lit, literal}
 use Rattle.sheet.specs.Order.{taking_all}
-use Rattle.words.proofs.Members.{all_out, mem_at}
+use Rattle.sheet.proofs.LiteralBytes.{entry_is_literal}
 
 pub loop-i-init : goal.loop-i-init
 loop-i-init c = (omega arith, omega arith, refl, nothing_ordered c.args.order.now)
 
 pub take_literal-o-requires : goal.take_literal-o-requires
 take_literal-o-requires c =
-    (all_out (is_literal 64) c.args.bytes.now c.requires.0 _ (mem_at 0 c.args.bytes.now c.loop-i.i (omega arith)), omega (arith, c.loop-i.invariant.1, c.loop-i.invariant.2, c.requires.1))
+    (entry_is_literal c.args.bytes.now c.loop-i.i c.requires.0 (omega arith), omega (arith, c.loop-i.invariant.1, c.loop-i.invariant.2, c.requires.1))
 
 pub loop-i-preserved : goal.loop-i-preserved
 loop-i-preserved c =

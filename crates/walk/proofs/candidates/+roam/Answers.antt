@@ -5,7 +5,7 @@ use Rattle.prepare.specs.declared.clauses.Literals.{Literals}
 use Rattle.search.specs.Grown.{candidate_clauses, falsified, grow, posed}
 use Rattle.search.specs.Search.{State, Answer, Cut, with_steps, judge, visit_candidate}
 use Rattle.search.specs.Tree.{Run, on, off}
-use Rattle.sheet.proofs.LiteralBytes.{in_atoms, complement_placed}
+use Rattle.sheet.proofs.LiteralBytes.{entry_is_literal, in_atoms, complement_placed}
 use Rattle.sheet.specs.Layout.{byte}
 use Rattle.sheet.specs.Literals.{Lit, literal, is_literal, complement}
 use Rattle.sheet.specs.Reading.{Sheet}
@@ -15,12 +15,6 @@ use Rattle.walk.proofs.Sets.{stand_child}
 use Rattle.walk.proofs.candidates.+roam.Goals as goal
 use Rattle.walk.specs.Carried.{Stand, candidates_below, state_of, ended_as}
 use Rattle.walk.specs.declared.candidates.Ending.{Ending}
-use Rattle.words.proofs.Members.{all_out, mem_at}
-use Rattle.words.specs.Lists.{all}
-
--- the byte that is branched on is a literal
-lit : (order : List ℕ) (depth : ℕ) → all (is_literal 64) order ≡ true → depth < length order → is_literal 64 (byte order depth) ≡ true
-lit order depth are h = all_out (is_literal 64) order are (byte order depth) (mem_at 0 order depth h)
 
 -- the walk below the node v from the state s on, by what the code finds there
 module _ (x : Sheet) (q : Lit) (allowance places : ℕ) (order : List ℕ) (depth : ℕ) (v : List Lit) (s : State) where
@@ -88,16 +82,16 @@ returns-then-order-depth-clause-tells_roamed t c x v is st =
     (sym (c.closed.ensures x.clauses (literal a.question ∷ []) v st) ∙ c.if-closed.false) c.if-order-depth.true st.made
 
 pub with_literal-requires : goal.with_literal-requires
-with_literal-requires t c = lit c.args.order.now c.args.depth c.requires.readable.order c.if-order-depth.false
+with_literal-requires t c = entry_is_literal c.args.order.now c.args.depth c.requires.readable.order c.if-order-depth.false
 
 pub complement-requires : goal.complement-requires
-complement-requires t c = lit c.args.order.now c.args.depth c.requires.readable.order c.if-order-depth.false
+complement-requires t c = entry_is_literal c.args.order.now c.args.depth c.requires.readable.order c.if-order-depth.false
 
 pub returns-in-Going-clause-tells_roamed : goal.returns-in-Going-clause-tells_roamed
 returns-in-Going-clause-tells_roamed t c x v is st =
     let a = c.args in
     let b = byte a.order.now a.depth in
-    let b_is = lit a.order.now a.depth c.requires.readable.order c.if-order-depth.false in
+    let b_is = entry_is_literal a.order.now a.depth c.requires.readable.order c.if-order-depth.false in
     let after = state_of c.roam-first.result c.roam-first.new.store in
     c.roam.ensures.tells_roamed x (v ++ (complement (literal b) ∷ [])) is
     (second_child st b b_is c.complement.ensures.1 (c.with_literal-in-Going.ensures v st.made))
@@ -114,7 +108,7 @@ pub returns-in-Affirmed-clause-tells_roamed : goal.returns-in-Affirmed-clause-te
 returns-in-Affirmed-clause-tells_roamed t c x v is st =
     let a = c.args in
     let b = byte a.order.now a.depth in
-    let b_is = lit a.order.now a.depth c.requires.readable.order c.if-order-depth.false in
+    let b_is = entry_is_literal a.order.now a.depth c.requires.readable.order c.if-order-depth.false in
     ended x (literal a.question) a.allowance (length a.store.now) a.order.now a.depth v (state_of a.w a.store.now) c.if-allowance-w.false
     (sym (c.closed.ensures x.clauses (literal a.question ∷ []) v st) ∙ c.if-closed.false) c.if-order-depth.false
     (c.roam-first.ensures.tells_roamed x (v ++ (literal b ∷ [])) is (first_child st b b_is (c.with_literal.ensures v st.made)))
@@ -124,7 +118,7 @@ pub returns-in-Exhausted-clause-tells_roamed : goal.returns-in-Exhausted-clause-
 returns-in-Exhausted-clause-tells_roamed t c x v is st =
     let a = c.args in
     let b = byte a.order.now a.depth in
-    let b_is = lit a.order.now a.depth c.requires.readable.order c.if-order-depth.false in
+    let b_is = entry_is_literal a.order.now a.depth c.requires.readable.order c.if-order-depth.false in
     ended x (literal a.question) a.allowance (length a.store.now) a.order.now a.depth v (state_of a.w a.store.now) c.if-allowance-w.false
     (sym (c.closed.ensures x.clauses (literal a.question ∷ []) v st) ∙ c.if-closed.false) c.if-order-depth.false
     (c.roam-first.ensures.tells_roamed x (v ++ (literal b ∷ [])) is (first_child st b b_is (c.with_literal.ensures v st.made)))
@@ -134,7 +128,7 @@ pub returns-in-Full-clause-tells_roamed : goal.returns-in-Full-clause-tells_roam
 returns-in-Full-clause-tells_roamed t c x v is st =
     let a = c.args in
     let b = byte a.order.now a.depth in
-    let b_is = lit a.order.now a.depth c.requires.readable.order c.if-order-depth.false in
+    let b_is = entry_is_literal a.order.now a.depth c.requires.readable.order c.if-order-depth.false in
     ended x (literal a.question) a.allowance (length a.store.now) a.order.now a.depth v (state_of a.w a.store.now) c.if-allowance-w.false
     (sym (c.closed.ensures x.clauses (literal a.question ∷ []) v st) ∙ c.if-closed.false) c.if-order-depth.false
     (c.roam-first.ensures.tells_roamed x (v ++ (literal b ∷ [])) is (first_child st b b_is (c.with_literal.ensures v st.made)))

@@ -1,16 +1,15 @@
 -- `walk::node::part_of`: one objective further back the part has its position exactly if the objective holds. Assumes nothing.
 use Rattle.std.proofs.Common.{ℕ, ◌≡◌, ◌-◌, sym, ap, ◌∙◌, arith}
-use Rattle.sheet.specs.Literals.{is_literal}
 use Rattle.walk.proofs.Parts.{part_from, part_none, part_whole, part_back}
 use Rattle.walk.proofs.node.part_of.Goals as goal
-use Rattle.words.proofs.Members.{all_out, mem_at}
+use Rattle.sheet.proofs.LiteralBytes.{entry_is_literal}
 use Rattle.words.specs.Positions.{adding}
 
 pub loop-i-init : goal.loop-i-init
 loop-i-init c = (omega arith, part_none c.args.objectives.now c.args.model)
 
 pub holds-requires : goal.holds-requires
-holds-requires c = all_out (is_literal 64) c.args.objectives.now c.requires.0 _ (mem_at 0 c.args.objectives.now (c.loop-i.i - 1) (omega arith))
+holds-requires c = entry_is_literal c.args.objectives.now (c.loop-i.i - 1) c.requires.0 (omega arith)
 
 pub loop-i-preserved-then-holds : goal.loop-i-preserved-then-holds
 loop-i-preserved-then-holds c = (

@@ -5,7 +5,7 @@ use Rattle.prepare.specs.declared.clauses.Literals.{Literals}
 use Rattle.search.specs.Grown.{unit, falsified, grow}
 use Rattle.search.specs.Search.{Stop, spent, visit}
 use Rattle.search.specs.Tree.{on, off}
-use Rattle.sheet.proofs.LiteralBytes.{in_atoms, complement_placed}
+use Rattle.sheet.proofs.LiteralBytes.{entry_is_literal, in_atoms, complement_placed}
 use Rattle.sheet.specs.Layout.{byte}
 use Rattle.sheet.specs.Literals.{Lit, literal, is_literal, complement}
 use Rattle.walk.proofs.Exits.{visit_due, visit_refused, out_refused, out_closed, out_full, out_first, out_second, order_next, order_end}
@@ -14,12 +14,6 @@ use Rattle.walk.proofs.test.+seek.Goals as goal
 use Rattle.walk.specs.Carried.{Stand, TellsClosed, TellsTest, meet_part, test_below, told}
 use Rattle.walk.specs.declared.test.Tried.TheVariants.{Missed, Spent}
 use Rattle.walk.specs.declared.test.Tried.{Tried}
-use Rattle.words.proofs.Members.{all_out, mem_at}
-use Rattle.words.specs.Lists.{all}
-
--- the byte that is branched on is a literal
-lit : (order : List ℕ) (depth : ℕ) → all (is_literal 64) order ≡ true → depth < length order → is_literal 64 (byte order depth) ≡ true
-lit order depth are h = all_out (is_literal 64) order are _ (mem_at 0 order depth h)
 
 -- the literal that is branched on
 abbrev branch_at : List ℕ → ℕ → Lit
@@ -91,23 +85,23 @@ returns-then-order-depth-clause-tells_test t c =
     node_full c.args.order.now c.args.objectives.now _ _ c.args.depth _ _ c.args.candidate _ _ c.if-allowance-steps.false c.closed.ensures c.if-closed.false c.if-order-depth.true _ c.meet.ensures.0
 
 pub with_literal-requires : goal.with_literal-requires
-with_literal-requires t c = lit _ _ c.requires.order c.if-order-depth.false
+with_literal-requires t c = entry_is_literal _ _ c.requires.order c.if-order-depth.false
 
 pub complement-requires : goal.complement-requires
-complement-requires t c = lit _ _ c.requires.order c.if-order-depth.false
+complement-requires t c = entry_is_literal _ _ c.requires.order c.if-order-depth.false
 
 pub returns-in-Missed-clause-tells_test : goal.returns-in-Missed-clause-tells_test
 returns-in-Missed-clause-tells_test t c =
     goes_on c.args.order.now c.args.objectives.now _ _ c.args.depth _ _ c.args.candidate _ _ c.if-allowance-steps.false c.closed.ensures c.if-closed.false c.if-order-depth.false
-    (lit _ _ c.requires.order c.if-order-depth.false) c.with_literal.ensures _ c.seek-first.ensures.tells_test (ap told c.in-Missed.is)
+    (entry_is_literal _ _ c.requires.order c.if-order-depth.false) c.with_literal.ensures _ c.seek-first.ensures.tells_test (ap told c.in-Missed.is)
     c.complement.ensures.1 c.with_literal-in-Missed.ensures _ c.seek.ensures.tells_test
 
 pub returns-in-Found-clause-tells_test : goal.returns-in-Found-clause-tells_test
 returns-in-Found-clause-tells_test t c =
     ended c.args.order.now c.args.objectives.now _ _ c.args.depth _ _ c.args.candidate _ _ c.if-allowance-steps.false c.closed.ensures c.if-closed.false c.if-order-depth.false
-    (lit _ _ c.requires.order c.if-order-depth.false) c.with_literal.ensures _ c.seek-first.ensures.tells_test (ap told c.in-Found.is)
+    (entry_is_literal _ _ c.requires.order c.if-order-depth.false) c.with_literal.ensures _ c.seek-first.ensures.tells_test (ap told c.in-Found.is)
 
 pub returns-in-Spent-clause-tells_test : goal.returns-in-Spent-clause-tells_test
 returns-in-Spent-clause-tells_test t c =
     ended c.args.order.now c.args.objectives.now _ _ c.args.depth _ _ c.args.candidate _ _ c.if-allowance-steps.false c.closed.ensures c.if-closed.false c.if-order-depth.false
-    (lit _ _ c.requires.order c.if-order-depth.false) c.with_literal.ensures _ c.seek-first.ensures.tells_test (ap told c.in-Spent.is)
+    (entry_is_literal _ _ c.requires.order c.if-order-depth.false) c.with_literal.ensures _ c.seek-first.ensures.tells_test (ap told c.in-Spent.is)
