@@ -1,5 +1,5 @@
 -- The contracts of the calls from other languages determine their answers and every lent word and byte. Assumes nothing.
-use mathlib.Core.Path.{sym, ◌∙◌}
+use Rattle.std.proofs.Common.{sym, ◌∙◌}
 use Rattle.jarvulpe.proofs.jarvulpe_check.Kinds as check_kinds
 use Rattle.jarvulpe.proofs.jarvulpe_check.Reads as check
 use Rattle.jarvulpe.proofs.jarvulpe_query.Kinds as query_kinds

@@ -1,7 +1,6 @@
 -- What the calls from other languages answer and write.
 use Rattle.std.specs.Prelude.{ℕ, List, [], ◌∷◌, length, get_or}
-use Rattle.query.specs.Query.{reply_of}
-use Rattle.query.specs.declared.Reply.{Reply}
+use Rattle.query.specs.Query.{Numbers, reply_of}
 use Rattle.sheet.specs.Reading.{Reading, refused, understood}
 
 -- "that call answers 10 to 15, or n, m and k": the number, or 0
@@ -15,9 +14,9 @@ sizes_of (refused c) before = before
 sizes_of (understood x) before = x.atoms ∷ length x.clauses ∷ length x.objectives ∷ []
 
 -- "steps, tests, stored": the three lent words afterwards
-abbrev pub counts_of : Reply → List ℕ
+abbrev pub counts_of : Numbers → List ℕ
 counts_of r = r.steps ∷ r.tests ∷ r.stored ∷ []
 
 -- the reply that a code and those words are
-abbrev pub reply_in : ℕ → List ℕ → Reply
+abbrev pub reply_in : ℕ → List ℕ → Numbers
 reply_in code words = reply_of code (get_or words 0 0) (get_or words 1 0) (get_or words 2 0)

@@ -1,4 +1,5 @@
-// The core for programs in other languages. A slice is passed as a pointer and then a length, an array as a pointer.
+// The core for programs in other languages. A slice is passed as a pointer and then a length, an array as a pointer; an answer is a number, since C has no
+// other, and counts go into lent words.
 #![tactic(auto)]
 
 ghost use Rattle.std.specs.Prelude.{◌≡◌, length};
@@ -7,26 +8,26 @@ ghost use Rattle.query.specs.Query.{checked, query_of};
 ghost use Rattle.query.specs.Promise.{Right, Bounded};
 ghost use Rattle.jarvulpe.specs.Boundary.{check_code, sizes_of, counts_of, reply_in};
 
-use query::query;
-use sheet::Checked;
-
-// The check of a sheet: 10 to 15 where it is refused; else 0, with the numbers of atoms, clauses and objectives in `sizes`.
+/// The check of a sheet: 10 to 15 where it is refused; else 0, with the numbers of atoms, clauses and objectives in `sizes`.
 #[unsafe(no_mangle)]
 pub extern "C" fn jarvulpe_check(sheet: &[u8], sizes: &mut [u32; 3]) -> u8
     ensures { (result ≡ check_code (read sheet.now)) × (sizes.new ≡ sizes_of (read sheet.now) sizes.old) }
 {
-    let answer = sheet::check(sheet);
-    match answer {
-        Checked::Refused(code) => code,
-        Checked::Sizes(atoms, clauses, objectives) => {
-            *sizes = [atoms as u32, clauses as u32, objectives as u32];
+    match sheet::check(sheet) {
+        Ok(found) => {
+            *sizes = [
+                u32::from(found.atoms),
+                found.clauses as u32,
+                found.objectives as u32,
+            ];
             0
         }
+        Err(refusal) => refusal.into(),
     }
 }
 
-// A query: its code, with the counts of steps, tests and stored parts in `counts`. On a yes the witness buffer holds the model; the stored
-// parts stand in the first places of the store.
+/// A query: its code, with the counts of steps, tests and stored parts in `counts`. On a yes the witness buffer holds the model; the stored
+/// parts stand in the first places of the store.
 #[unsafe(no_mangle)]
 pub extern "C" fn jarvulpe_query(
     sheet: &[u8],
@@ -43,7 +44,14 @@ pub extern "C" fn jarvulpe_query(
     ensures right { Right (checked sheet.now question (length witness.old)) question allowance (length store.old) (reply_in result counts.new) witness.old witness.new }
     ensures bounded { Bounded (checked sheet.now question (length witness.old)) question (length store.old) (reply_in result counts.new) }
 {
-    let reply = query(sheet, question, allowance, store, witness);
-    *counts = [reply.steps, reply.tests, reply.stored as u64];
-    reply.code
+    match query::query(sheet, question, allowance, store, witness) {
+        Ok(reply) => {
+            *counts = [reply.steps, reply.tests, reply.stored as u64];
+            reply.verdict.into()
+        }
+        Err(refusal) => {
+            *counts = [0; 3];
+            refusal.into()
+        }
+    }
 }

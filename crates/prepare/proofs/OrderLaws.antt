@@ -1,16 +1,12 @@
 -- The branch order in its buffer: one literal more, and the whole of it. Assumes nothing.
-use Prim.Native.Nat.{ℕ, suc, ◌+◌, ◌-◌, ◌≤◌, ◌<◌}
-use mathlib.Core.Bool.{true, false, ◌||◌}
-use mathlib.Core.List.{List, [], ◌∷◌, ◌++◌, map, map-append}
-use mathlib.Core.Path.{◌≡◌, refl, sym, ap, ap₂, ◌∙◌, subst}
-use native.Mathlib.Numerals.{add-one}
-use native.Mathlib.Omega.{arith}
-use lib.Dec.{eqb}
-use lib.ListN.{length, drop, take, set, length-map, length-append, length-drop}
-use lib.Seq.{take-suc}
-use borrow.Author.Tests.{eq-eqb, eqb-true}
+use Rattle.std.proofs.Common.{ℕ, suc, ◌+◌, ◌-◌, ◌≤◌, ◌<◌, true, false, ◌||◌, List, [], ◌∷◌, ◌++◌, map, ◌≡◌, refl, sym, ap, ◌∙◌, subst, arith, length, drop, take, eq-eqb, eqb, add-one}
+use Rattle.std.proofs.Math.ListN.{set, length-map, length-append, length-drop}
+use Rattle.std.proofs.Math.Seq.{take-suc}
+use mathlib.Core.List.{map-append}
+use mathlib.Core.Path.{ap₂}
+use borrow.Author.Tests.{eqb-true}
 use Rattle.prepare.specs.Carried.{Ordered}
-use Rattle.prepare.specs.declared.order.Named.{Named}
+use Rattle.prepare.specs.declared.order.Order.{Order}
 use Rattle.sheet.proofs.BranchLaws.{taking_old, taking_new, names_taking, taking_append}
 use Rattle.sheet.specs.Layout.{byte, atom_count, objective_bytes}
 use Rattle.sheet.specs.Literals.{Lit, pos, atom, literal, byte_of}
@@ -38,33 +34,35 @@ taking_atom so a =
 
 -- ---- the order in its buffer
 
-pub nothing_ordered : (before : List ℕ) → Ordered [] before (record { atoms = 0; count = 0 }) before
-nothing_ordered before = record { counted = refl; named = λ a _. has_none (a - 1); written = refl }
+pub nothing_ordered : (o : Order) → o.count ≡ 0 → o.atoms ≡ 0 → Ordered [] o.bytes.now o
+nothing_ordered o none empty = record { counted = none; named = λ a _. ap (λ (w : ℕ). has w (a - 1)) empty ∙ has_none (a - 1); written = refl }
 
-module _ {so : List Lit} {before buffer : List ℕ} {o : Named} (l : Lit) (is : Ordered so before o buffer) where
+module _ {so : List Lit} {before : List ℕ} {o : Order} (l : Lit) (is : Ordered so before o) where
   as_many : length (map byte_of so) ≡ o.count
   as_many = length-map so byte_of ∙ sym is.counted
 
   -- the set has the atom where the order names it
-  pub keeps : 1 ≤ atom l → has o.atoms (atom l - 1) ≡ true → Ordered (taking so l) before o buffer
+  pub keeps : 1 ≤ atom l → has o.atoms (atom l - 1) ≡ true → Ordered (taking so l) before o
   keeps some t =
       let e : taking so l ≡ so = taking_old so l (sym (is.named (atom l) some) ∙ t) in
-      subst (λ (x : List Lit). Ordered x before o buffer) (sym e) is
+      subst (λ (x : List Lit). Ordered x before o) (sym e) is
 
   -- a place that the buffer has was there before
-  was_there : o.count < length buffer → o.count < length before
+  was_there : o.count < length o.bytes.now → o.count < length before
   was_there h =
       let bytes = map byte_of so in
       omega (arith, as_many, ap length is.written ∙ length-append bytes (drop (length bytes) before), length-drop (length bytes) before)
 
-  pub puts : 1 ≤ atom l → has o.atoms (atom l - 1) ≡ false → o.count < length buffer → {w v : ℕ} → w ≡ adding o.atoms (atom l - 1) → v ≡ byte_of l
-      → Ordered (taking so l) before (record { atoms = w; count = o.count + 1 }) (set buffer o.count v)
-  puts some t fits {w} {v} f g =
+  -- the order after it: a byte, a number and an atom more
+  pub puts : 1 ≤ atom l → has o.atoms (atom l - 1) ≡ false → o.count < length o.bytes.now → {v : ℕ} {o' : Order}
+      → o'.count ≡ o.count + 1 → o'.atoms ≡ adding o.atoms (atom l - 1) → v ≡ byte_of l → o'.bytes.now ≡ set o.bytes.now o.count v
+      → Ordered (taking so l) before o'
+  puts some t fits {v} {o'} more f g w =
       record {
-        counted = ap (λ (k : ℕ). k + 1) is.counted ∙ sym (length-append so (l ∷ [])) ∙ ap length (sym e);
+        counted = more ∙ ap (λ (k : ℕ). k + 1) is.counted ∙ sym (length-append so (l ∷ [])) ∙ ap length (sym e);
         named = λ a h. ap (λ (x : ℕ). has x (a - 1)) f ∙ has_adding o.atoms (atom l - 1) (a - 1) ∙ ap₂ ◌||◌ (is.named a h) (same_atom a h) ∙ sym (names_taking so l a);
         written =
-            ap₂ (λ (x : List ℕ) (y : ℕ). set x o.count y) is.written g
+            w ∙ ap₂ (λ (x : List ℕ) (y : ℕ). set x o.count y) is.written g
             ∙ put_over (map byte_of so) before o.count (byte_of l) 0 as_many (was_there fits)
             ∙ ap (λ (x : List ℕ). over x before) (sym (map-append byte_of so (l ∷ [])) ∙ ap (map byte_of) (sym e));
       }
@@ -79,6 +77,9 @@ module _ {so : List Lit} {before buffer : List ℕ} {o : Named} (l : Lit) (is : 
           (λ t. let q = eqb-true (atom l) a t in eq-eqb (a - 1) (atom l - 1) (omega arith))
 
 -- the objectives first, then the atoms
-pub branch_is : (s : List ℕ) → taking_all (taking_all [] (map literal (objective_bytes s))) (map pos (up_to (atom_count s))) ≡ branch (sheet_of s)
+pub branch_is : (s : List ℕ) {os : List ℕ} {n : ℕ} → os ≡ objective_bytes s → n ≡ atom_count s
+    → taking_all (taking_all [] (map literal os)) (map pos (up_to n)) ≡ branch (sheet_of s)
 unfolding branch sheet_of
-branch_is s = sym (taking_append [] (map literal (objective_bytes s)) (map pos (up_to (atom_count s))))
+branch_is s e f =
+    (λ i. taking_all (taking_all [] (map literal (e i))) (map pos (up_to (f i))))
+    ∙ sym (taking_append [] (map literal (objective_bytes s)) (map pos (up_to (atom_count s))))

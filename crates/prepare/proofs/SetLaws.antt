@@ -1,14 +1,18 @@
 -- The two sets of atoms of each clause: one literal more, and a list that is filled with them. Assumes nothing.
-use Prim.Native.Nat.{ℕ, ◌+◌, ◌-◌, ◌<◌}
-use mathlib.Core.List.{List, [], ◌∷◌, ◌++◌, map, map-append}
-use mathlib.Core.Path.{◌≡◌, refl, sym, ap, ◌∙◌}
-use lib.ListN.{length, set, length-map}
+use Rattle.std.proofs.Common.{ℕ, true, false, ◌+◌, ◌-◌, ◌≤◌, ◌<◌, subst, subst₂, arith, take, drop, List, [], ◌∷◌, ◌++◌, map, ◌≡◌, refl, sym, ap, ◌∙◌, length}
+use Rattle.std.proofs.Math.ListN.{set, length-map}
+use Rattle.std.proofs.lemmas.List.{take-take, drop-drop, drop-take}
+use mathlib.Core.Bool.{false≢true}
+use mathlib.Core.List.{map-append}
 use Rattle.prepare.specs.Carried.{negated, sets_of}
 use Rattle.prepare.specs.declared.clauses.Literals.{Literals}
-use Rattle.sheet.specs.Layout.{clause_bytes}
-use Rattle.sheet.specs.Literals.{Lit, pos, neg, literal, plains}
+use Rattle.sheet.proofs.ClauseLaws.{clause_rises, clause_ends_within, clause_literals}
+use Rattle.sheet.proofs.Understood.{passed, length_span}
+use Rattle.sheet.specs.Layout.{clause_count, literal_count, literals_at, objectives_at, clause_start, clause_end, clause_bytes, literal_bytes, span}
+use Rattle.sheet.specs.Literals.{Lit, pos, neg, plain, place, literal, plains, is_literal}
+use Rattle.sheet.specs.Reading.{Accepted}
 use Rattle.words.proofs.Lists.{length_below, put_over, map_below_next}
-use Rattle.words.specs.Lists.{over, below}
+use Rattle.words.specs.Lists.{all, over, below}
 use Rattle.words.specs.Positions.{adding, set_of}
 
 -- ---- one literal more in a clause's two sets
@@ -16,33 +20,70 @@ use Rattle.words.specs.Positions.{adding, set_of}
 abbrev sets : ℕ → ℕ → Literals
 sets p q = record { plains = p; negated = q }
 
-module _ (ls : List Lit) (a : ℕ) {c : Literals} {r : ℕ} (e : c ≡ sets_of ls) where
-  pub with_plain : r ≡ adding c.plains (a - 1) → sets r c.negated ≡ sets_of (pos a ∷ ls)
+module _ (ls : List Lit) {c : Literals} {r : ℕ} (e : c ≡ sets_of ls) where
+  pub with_plain : (l : Lit) → plain l ≡ true → r ≡ adding c.plains (place l) → sets r c.negated ≡ sets_of (l ∷ ls)
   unfolding plains negated set_of
-  with_plain f = ap (λ (p : ℕ). sets p c.negated) f ∙ ap (λ (w : Literals). sets (adding w.plains (a - 1)) w.negated) e
+  with_plain (pos a) is f = ap (λ (p : ℕ). sets p c.negated) f ∙ ap (λ (w : Literals). sets (adding w.plains (a - 1)) w.negated) e
+  with_plain (neg a) is f = absurd (false≢true is)
 
-  pub with_negated : r ≡ adding c.negated (a - 1) → sets c.plains r ≡ sets_of (neg a ∷ ls)
+  pub with_negated : (l : Lit) → plain l ≡ false → r ≡ adding c.negated (place l) → sets c.plains r ≡ sets_of (l ∷ ls)
   unfolding plains negated set_of
-  with_negated f = ap (λ (q : ℕ). sets c.plains q) f ∙ ap (λ (w : Literals). sets w.plains (adding w.negated (a - 1))) e
+  with_negated (pos a) is f = absurd (false≢true (sym is))
+  with_negated (neg a) is f = ap (λ (q : ℕ). sets c.plains q) f ∙ ap (λ (w : Literals). sets w.plains (adding w.negated (a - 1))) e
 
 -- ---- the sets of the first clauses, as a list is filled with them
 
 abbrev pub literals_of : List ℕ → ℕ → List Lit
 literals_of s i = map literal (clause_bytes s i)
 
-module _ (of_literals : List Lit → ℕ) (s : List ℕ) where
-  abbrev pub first_sets : ℕ → List ℕ
-  first_sets i = map of_literals (map (literals_of s) (below i))
+module _ (s : List ℕ) where
+  abbrev pub first_sets : ℕ → List Literals
+  first_sets i = map sets_of (map (literals_of s) (below i))
 
   pub no_sets : first_sets 0 ≡ []
   unfolding below
   no_sets = refl
 
   pub length_sets : (i : ℕ) → length (first_sets i) ≡ i
-  length_sets i = length-map (map (literals_of s) (below i)) of_literals ∙ length-map (below i) (literals_of s) ∙ length_below i
+  length_sets i = length-map (map (literals_of s) (below i)) sets_of ∙ length-map (below i) (literals_of s) ∙ length_below i
 
-  pub next_set : (d : List ℕ) (i v : ℕ) → v ≡ of_literals (literals_of s i) → i < length d → set (over (first_sets i) d) i v ≡ over (first_sets (i + 1)) d
+  pub next_set : (d : List Literals) (i : ℕ) (v : Literals) → v ≡ sets_of (literals_of s i) → i < length d → set (over (first_sets i) d) i v ≡ over (first_sets (i + 1)) d
   next_set d i v e h =
-      put_over (first_sets i) d i v 0 (length_sets i) h
-      ∙ ap (λ (x : ℕ). over (first_sets i ++ (x ∷ [])) d) e
-      ∙ ap (λ (l : List ℕ). over l d) (sym (ap (map of_literals) (map_below_next (literals_of s) i) ∙ map-append of_literals (map (literals_of s) (below i)) (literals_of s i ∷ [])))
+      put_over (first_sets i) d i v v (length_sets i) h
+      ∙ ap (λ (x : Literals). over (first_sets i ++ (x ∷ [])) d) e
+      ∙ ap (λ (l : List Literals). over l d) (sym (ap (map sets_of) (map_below_next (literals_of s) i) ∙ map-append sets_of (map (literals_of s) (below i)) (literals_of s i ∷ [])))
+
+-- ---- the bytes of a clause among those of all clauses
+
+span_of_span : (s : List ℕ) (at to start end : ℕ) → start ≤ end → at + end ≤ to → span start end (span at to s) ≡ span (at + start) (at + end) s
+span_of_span s at to start end rises within =
+    let rest = to - at - start in
+    let whole : to - at ≡ start + rest = omega arith in
+    let long : at + end - (at + start) ≡ end - start = omega arith in
+    ap (λ (n : ℕ). take (end - start) (drop start (take n (drop at s)))) whole
+    ∙ ap (take (end - start)) (drop-take start rest (drop at s))
+    ∙ take-take (end - start) rest (drop start (drop at s)) (omega arith)
+    ∙ (λ i. take (sym long i) (drop-drop start at s i))
+
+-- what is known of the clause from start to end, of all clauses' literals
+pub record Part (s bytes : List ℕ) (i start end : ℕ) : Type 0 where
+  pub rises : start ≤ end
+  pub within : end ≤ length bytes
+  pub part : span start end bytes ≡ clause_bytes s i
+  pub literals : all (is_literal 64) (span start end bytes) ≡ true
+
+pub part_of : (s : List ℕ) (i : ℕ) {bytes : List ℕ} {start end : ℕ} → Accepted s → i < clause_count s
+    → bytes ≡ literal_bytes s → start ≡ clause_start s i → end ≡ clause_end s i → Part s bytes i start end
+part_of s i {bytes} {start} {end} ok h all_bytes starts ends =
+    let p = (passed s ok).sized in
+    let rises : start ≤ end = subst₂ (λ (a b : ℕ). a ≤ b) (sym starts) (sym ends) (clause_rises s ok i h) in
+    let most : end ≤ literal_count s = subst (λ (b : ℕ). b ≤ literal_count s) (sym ends) (clause_ends_within s ok i h) in
+    let part : span start end bytes ≡ clause_bytes s i =
+    ap (span start end) all_bytes ∙ span_of_span s (literals_at s) (objectives_at s) start end rises (omega arith)
+    ∙ (λ k. span (literals_at s + starts k) (literals_at s + ends k) s) in
+    record {
+      rises = rises;
+      within = omega (arith, ap length all_bytes ∙ length_span (literals_at s) (objectives_at s) s (omega (arith, p.whole)));
+      part = part;
+      literals = ap (all (is_literal 64)) part ∙ clause_literals s ok i h;
+    }

@@ -1,21 +1,13 @@
--- What words stand for: every 64-bit word is the set of its positions, so two words are the sets of some literals of the atoms 1 to 64, and two
--- lists of words those of some clauses. So a contract that speaks of whatever its words stand for does speak of something. Assumes nothing.
-use Prim.Native.Nat.{ℕ, suc, ◌-◌, ◌^◌, ◌<◌}
-use mathlib.Core.Bool.{true, false≢true}
-use mathlib.Core.List.Memᴰ.{append_cases}
-use mathlib.Core.List.Memᴰ.{cases_cons}
-use mathlib.Core.List.Memᴰ.{head}
-use mathlib.Core.List.Memᴰ.{not-nil}
-use mathlib.Core.List.Memᴰ.{of_map}
-use mathlib.Core.List.Memᴰ.{tail}
-use mathlib.Core.List.{List, [], ◌∷◌, ◌++◌, map, Memᴰ as Mem}
+-- What words stand for: every 64-bit word is the set of its positions, so two words are the sets of some literals of the atoms 1 to 64, and a
+-- list of such pairs those of some clauses. So a contract that speaks of whatever its words stand for does speak of something. Assumes nothing.
+use Rattle.std.proofs.Common.{ℕ, suc, ◌-◌, ◌^◌, ◌<◌, true, List, [], ◌∷◌, ◌++◌, map, ◌≡◌, refl, sym, ap, ◌∙◌, subst, arith, eqb, eq-eqb}
+use mathlib.Core.Bool.{false≢true}
+use mathlib.Core.List.{Memᴰ as Mem}
+use mathlib.Core.List.Memᴰ.{append_cases, cases_cons, head, not-nil, of_map, tail}
 use mathlib.Core.Logic.{⊎_elim}
-use mathlib.Core.Path.{◌≡◌, refl, sym, ap, ap₂, ◌∙◌, subst}
+use mathlib.Core.Path.{ap₂}
 use native.Mathlib.Decide.{dec_lt}
-use native.Mathlib.Omega.{arith}
-use lib.Dec.{eqb}
-use lib.ListN.{length}
-use borrow.Author.Tests.{eq-eqb, eqb-true}
+use borrow.Author.Tests.{eqb-true}
 use denote.Laws.{Is}
 use denote.Struct.Laws.{val}
 use Rattle.prepare.proofs.clauses.Literals.TheLaws.{the_laws}
@@ -97,21 +89,15 @@ standing w fits =
       λ i. record { plains = sym plain i; negated = sym other i },
     )
 
--- every word of a list has 64 bits
-abbrev pub Words : List ℕ → Type 0
-Words ws = (w : ℕ) → Mem w ws → w < 2 ^ 64
-
-pub standing_clauses : (ps ns : List ℕ) → length ps ≡ length ns → Words ps → Words ns → (cs : List (List Lit)) × Clauses cs ps ns
-standing_clauses [] [] even p n = ([], record { placed = λ c m. absurd (not-nil m); plain = refl; other = refl })
-standing_clauses [] (y ∷ ns) even p n = absurd (omega arith)
-standing_clauses (x ∷ ps) [] even p n = absurd (omega arith)
-standing_clauses (x ∷ ps) (y ∷ ns) even p n =
-    let c = standing (record { plains = x; negated = y }) (p x (head refl), n y (head refl)) in
-    let u = standing_clauses ps ns (omega arith) (λ w m. p w (tail m)) (λ w m. n w (tail m)) in (
+-- the same for a list of such pairs
+pub standing_clauses : (sets : List Literals) → ((w : Literals) → Mem w sets → Fitting w) → (cs : List (List Lit)) × Clauses cs sets
+standing_clauses [] fits = ([], record { placed = λ c m. absurd (not-nil m); sets = refl })
+standing_clauses (w ∷ sets) fits =
+    let c = standing w (fits w (head refl)) in
+    let u = standing_clauses sets (λ x m. fits x (tail m)) in (
       c.0 ∷ u.0,
       record {
         placed = λ d m. ⊎_elim (λ e. subst Placed (sym e) c.1) (u.1.placed d) (cases_cons m);
-        plain = ap₂ ◌∷◌ (ap (λ (l : Literals). l.plains) c.2) u.1.plain;
-        other = ap₂ ◌∷◌ (ap (λ (l : Literals). l.negated) c.2) u.1.other;
+        sets = ap₂ ◌∷◌ c.2 u.1.sets;
       },
     )

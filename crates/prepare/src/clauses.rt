@@ -1,79 +1,64 @@
 // The clauses of an accepted sheet, each as two sets of atoms: atom a is position a - 1.
-ghost use Rattle.std.specs.Prelude.{◌≡◌, true, List, ◌∷◌, map, ◌≤◌, length};
-ghost use Rattle.words.specs.Lists.{all, over};
-ghost use Rattle.sheet.specs.Literals.{Lit, literal, is_literal, plains as plain_atoms};
+ghost use Rattle.std.specs.Prelude.{◌≡◌, List, ◌∷◌, map, ◌≤◌, length};
+ghost use Rattle.words.specs.Lists.{over};
+ghost use Rattle.sheet.specs.Enums.{lit};
+ghost use Rattle.sheet.specs.Literals.{Lit, literal};
 ghost use Rattle.sheet.specs.Layout.{clause_count};
 ghost use Rattle.sheet.specs.Reading.{sheet_of, Accepted};
-ghost use Rattle.prepare.specs.Carried.{negated as negated_atoms, sets_of};
+ghost use Rattle.prepare.specs.Carried.{sets_of};
 
-use sheet::bytes::word_at;
-use sheet::literal::{Literal, literal_of};
+use sheet::bytes::Laid;
+use sheet::literal::{Literal, LiteralBytes};
 
-// A set of literals, as a clause is one: the atoms that stand in it, and those that stand negated.
-#[derive(Clone, Copy)]
+/// A set of literals, as a clause is one: the atoms that stand in it, and those that stand negated.
+#[derive(Clone, Copy, Debug, Default, PartialEq, Eq)]
 pub struct Literals {
     pub plains: u64,
     pub negated: u64,
 }
 
-// The set with one literal more.
-pub fn with_literal(c: Literals, b: u8) -> Literals
-    requires { is_literal 64 b ≡ true }
-    ensures { (ls : List Lit) → c ≡ sets_of ls → result ≡ sets_of (literal b ∷ ls) }
-{
-    match literal_of(b, 64) {
-        Literal::Of(plain, atom) => {
-            if plain {
-                return Literals {
-                    plains: words::adding(c.plains, atom - 1),
-                    negated: c.negated,
-                };
-            }
+impl Literals {
+    /// The set with one literal more.
+    pub fn with(self, l: Literal) -> Literals
+        ensures { (ls : List Lit) → self ≡ sets_of ls → result ≡ sets_of (lit l ∷ ls) }
+    {
+        if l.plain {
             Literals {
-                plains: c.plains,
-                negated: words::adding(c.negated, atom - 1),
+                plains: words::adding(self.plains, l.place()),
+                negated: self.negated,
+            }
+        } else {
+            Literals {
+                plains: self.plains,
+                negated: words::adding(self.negated, l.place()),
             }
         }
-        Literal::Neither => c,
     }
 }
 
-// The clause of some literal bytes.
-fn clause_of(bytes: &[u8]) -> Literals
-    requires { all (is_literal 64) bytes.now ≡ true }
-    ensures { result ≡ sets_of (map literal bytes.now) }
+/// The clause of some literal bytes.
+fn clause_of(bytes: LiteralBytes) -> Literals
+    ensures { result ≡ sets_of (map literal bytes.entry.bytes.now) }
 {
-    let mut c = Literals {
-        plains: 0,
-        negated: 0,
-    };
-    let mut i = bytes.len();
-    while 0 < i {
-        i -= 1;
-        c = with_literal(c, bytes[i]);
+    let mut clause = Literals::default();
+    for i in (0..bytes.len()).rev() {
+        clause = clause.with(bytes.at(i));
     }
-    c
+    clause
 }
 
-// The two sets of each clause, into the first places of the lent words.
-pub fn clauses_into(s: &[u8], plains: &mut [u64], negated: &mut [u64])
-    requires accepted { Accepted s.now }
-    requires room { (clause_count s.now ≤ length plains.old) × (clause_count s.now ≤ length negated.old) }
-    ensures plains { plains.new ≡ over (map plain_atoms (sheet_of s.now).clauses) plains.old }
-    ensures negated { negated.new ≡ over (map negated_atoms (sheet_of s.now).clauses) negated.old }
+/// The two sets of each clause, into the first places of the lent words.
+pub fn clauses_into(sheet: Laid, clauses: &mut [Literals])
+    requires accepted { Accepted sheet.bytes.now }
+    requires room { clause_count sheet.bytes.now ≤ length clauses.old }
+    ensures { clauses.new ≡ over (map sets_of (sheet_of sheet.entry.bytes.now).clauses) clauses.old }
 {
-    let clauses = word_at(s, 4) as usize;
-    let literals_at = 32 + 4 * clauses;
+    let literals = sheet.literals();
     let mut start = 0;
-    let mut i = 0;
-    while i < clauses {
-        let end = word_at(s, 32 + 4 * i) as usize;
-        let from = literals_at + start;
-        let to = literals_at + end;
-        let c = clause_of(&s[from..to]);
-        plains[i] = c.plains;
-        negated[i] = c.negated;
+    for i in 0..sheet.clauses() {
+        let end = sheet.clause_end(i);
+        let bytes = &literals[start..end];
+        clauses[i] = clause_of(LiteralBytes { bytes });
         start = end;
-        i += 1;
     }
 }

@@ -2,34 +2,33 @@
 #![tactic(auto)]
 
 ghost use Rattle.std.specs.Prelude.{◌≡◌};
-ghost use Rattle.sheet.specs.Enums.{check_of};
+ghost use Rattle.sheet.specs.Enums.{check_of, numbered};
 ghost use Rattle.sheet.specs.Reading.{read};
-ghost use Rattle.prepare.specs.Carried.{plain_table, negated_table, order_table};
+ghost use Rattle.prepare.specs.Carried.{clause_table, order_table};
 
-use sheet::Checked;
+use clauses::{Literals, clauses_into};
+use order::branch_order;
+use sheet::bytes::Laid;
+use sheet::{Refusal, Sizes};
 
 pub mod clauses;
+pub mod network;
 pub mod order;
+pub mod ready;
 
-// Checks a sheet and, where it is accepted, fills its tables: the two sets of each clause, and the branch order.
+/// Checks a sheet and, where it is accepted, fills its tables: the two sets of each clause, and the branch order.
 pub fn prepare(
     sheet: &[u8],
-    plains: &mut [u64; 1024],
-    negated: &mut [u64; 1024],
+    clauses: &mut [Literals; 1024],
     order: &mut [u8; 128],
-) -> Checked
-    ensures checked { result ≡ check_of (read sheet.now) }
-    ensures plains { plains.new ≡ plain_table (read sheet.now) plains.old }
-    ensures negated { negated.new ≡ negated_table (read sheet.now) negated.old }
+) -> Result<Sizes, Refusal>
+    ensures checked { numbered result ≡ check_of (read sheet.now) }
+    ensures clauses { clauses.new ≡ clause_table (read sheet.now) clauses.old }
     ensures order { order.new ≡ order_table (read sheet.now) order.old }
 {
-    let checked = sheet::check(sheet);
-    match checked {
-        Checked::Refused(_) => checked,
-        Checked::Sizes(_, _, _) => {
-            clauses::clauses_into(sheet, plains, negated);
-            order::branch_order(sheet, order);
-            checked
-        }
-    }
+    let sizes = sheet::check(sheet)?;
+    let accepted = Laid { bytes: sheet };
+    clauses_into(accepted, clauses);
+    branch_order(accepted, order);
+    Ok(sizes)
 }

@@ -1,12 +1,7 @@
 -- What a line's yes and no say of the models. Assumes nothing.
-use Prim.Native.Nat.{ℕ, ◌<◌, ◌+◌, ◌-◌}
-use mathlib.Core.Bool.{true, false, not}
-use mathlib.Core.List.{List, [], ◌∷◌, Memᴰ as Mem}
-use mathlib.Core.Path.{◌≡◌, refl, sym, ap, subst, ◌∙◌}
-use native.Mathlib.Omega.{arith}
+use Rattle.std.proofs.Common.{ℕ, ◌<◌, true, false, not, List, [], ◌∷◌, length, replicate, ◌≡◌, refl, sym, ap, subst, ◌∙◌, lit≤, arith}
+use mathlib.Core.List.{Memᴰ as Mem}
 use borrow.Author.Tests.{not-false, le-ltb}
-use lib.Dec.{lit≤}
-use lib.ListN.{length, replicate}
 use Rattle.query.proofs.Checking.{accepted_checked}
 use Rattle.query.proofs.Promises.{as_checked}
 use Rattle.query.specs.Promise.{Right}
@@ -16,7 +11,7 @@ use Rattle.search.proofs.Nodes.{complement_atom, holds_complement, complement_tr
 use Rattle.search.specs.Demands.{Demand2}
 use Rattle.search.specs.Models.{holds, containment, Optimal}
 use Rattle.sheet.proofs.Atoms.{objective_literal, objectives_literals}
-use Rattle.sheet.proofs.LiteralBytes.{entry_is_literal, complement_literal, complement_is_literal, its_byte}
+use Rattle.sheet.proofs.LiteralBytes.{entry_is_literal, in_atoms, complement_placed, byte_is_literal, literal_byte}
 use Rattle.sheet.proofs.Literals.{literal_atom, literal_small}
 use Rattle.sheet.proofs.Understood.{passed}
 use Rattle.sheet.specs.Layout.{atom_count, byte, objective_bytes}
@@ -33,15 +28,12 @@ module _ (s : List ℕ) (ok : Accepted s) (i : ℕ) (there : i < length (objecti
   abbrev objective : Lit
   objective = literal b
 
-  pub objective_is_literal : is_literal 64 b ≡ true
+  objective_is_literal : is_literal 64 b ≡ true
   objective_is_literal = entry_is_literal (objective_bytes s) i (objectives_literals s ok) there
 
-  -- the byte that is asked about, and that it stands for the objective's complement
-  asked_byte : byte_of (complement objective) ≡ 255 - b + 1
-  asked_byte = its_byte (255 - b + 1) (complement_is_literal b objective_is_literal) (complement_literal b objective_is_literal)
-
+  -- the byte that is asked about stands for the objective's complement
   question : literal (byte_of (complement objective)) ≡ complement objective
-  question = ap literal asked_byte ∙ complement_literal b objective_is_literal
+  question = literal_byte (complement objective) (complement_placed objective (in_atoms b objective_is_literal))
 
   -- the question passes the checks
   asks : is_literal (atom_count s) (byte_of (complement objective)) ≡ true
@@ -49,7 +41,8 @@ module _ (s : List ℕ) (ok : Accepted s) (i : ℕ) (there : i < length (objecti
       let n = atom_count s in
       let few = (passed s ok).sized.counted.atoms in
       let lit = objective_literal s ok b (mem_at 0 (objective_bytes s) i there) in
-      literal_atom n _ few (subst (λ (q : ℕ). q < 256) (sym asked_byte) (literal_small 64 (255 - b + 1) (lit≤ tt) (complement_is_literal b objective_is_literal)))
+      let small = literal_small 64 _ (lit≤ tt) (byte_is_literal (complement objective) (complement_placed objective (in_atoms b objective_is_literal))) in
+      literal_atom n _ few small
       ∙ ap (between 1 n) (ap atom question ∙ complement_atom objective)
       ∙ sym (literal_atom n b few (literal_small 64 b (lit≤ tt) objective_is_literal)) ∙ lit
 

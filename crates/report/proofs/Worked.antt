@@ -1,6 +1,6 @@
 -- The document's own output, computed. Assumes nothing.
 use mathlib.Core.List.{flat_map}
-use mathlib.Core.Path.{◌≡◌, refl}
+use Rattle.std.proofs.Common.{◌≡◌, refl}
 use Rattle.query.specs.Query.{query_table, checked, values_of, query_of}
 use Rattle.report.specs.Lines.{verdict, line, asked, line_at, printed}
 use Rattle.search.specs.Grown.{falsified, grow, game}

@@ -1,8 +1,7 @@
 -- What the program `suspects` prints of a sheet. Quotations are of document 01.
-use Rattle.std.specs.Prelude.{ℕ, ◌+◌, not, cond, eqb, ltb, length, replicate}
-use mathlib.Core.List.{List, [], ◌++◌, flat_map}
-use Rattle.query.specs.Query.{query_of}
-use Rattle.query.specs.declared.Reply.{Reply}
+use Rattle.std.specs.Prelude.{ℕ, ◌+◌, not, cond, List, [], ◌++◌, eqb, ltb, length, replicate}
+use mathlib.Core.List.{flat_map}
+use Rattle.query.specs.Query.{Numbers, query_of}
 use Rattle.sheet.specs.Layout.{byte, objective_bytes}
 use Rattle.sheet.specs.Literals.{Lit, atom, plain, literal, byte_of, complement}
 use Rattle.sheet.specs.Reading.{Reading, refused, understood, read}
@@ -26,16 +25,16 @@ unfoldable pub verdict : ℕ → List ℕ
 verdict code = cond (eqb code 1) (letters "yes") (cond (eqb code 2) (letters "no") (decimal code))
 
 -- "steps, tests, stored"
-abbrev pub counts : Reply → List ℕ
+abbrev pub counts : Numbers → List ℕ
 counts r = field (decimal r.steps) ++ field (decimal r.tests) ++ field (decimal r.stored) ++ newline
 
 -- "position from 1, the literal in signed decimal, the answer to its complement .., steps, tests, stored"
-unfoldable pub line : ℕ → Lit → Reply → List ℕ
+unfoldable pub line : ℕ → Lit → Numbers → List ℕ
 line i l r = decimal (i + 1) ++ field (signed_decimal (not (plain l)) (atom l)) ++ field (verdict r.code) ++ counts r
 
 -- the reply to "its complement"; "Each question has 1,000,000 steps and 1,024 places." Store and witness buffer hold zeros beforehand, and the
 -- buffer has a byte for each of the 64 atoms that a sheet can have.
-unfoldable pub asked : List ℕ → Lit → Reply
+unfoldable pub asked : List ℕ → Lit → Numbers
 asked s l = (query_of s (byte_of (complement l)) 1000000 (replicate 1024 0) (replicate 64 0)).reply
 
 -- how many objectives have a line

@@ -1,177 +1,154 @@
-// The lines that are printed of a sheet, each put into a lent buffer.
+// The lines that are printed of a sheet, each put into a lent buffer: functions and no `Display`, for the reason that `text` gives, and each asks for the room
+// that its own text can need.
 #![tactic(auto)]
 
-ghost use Rattle.std.specs.Prelude.{◌≡◌, true, not, ◌++◌, ◌+◌, ◌≤◌, ◌<◌, length};
-ghost use Rattle.sheet.specs.Literals.{is_literal, literal, plain, atom};
-ghost use Rattle.sheet.specs.Enums.{check_of};
+ghost use Rattle.std.specs.Prelude.{◌≡◌, Ok, ◌++◌, not, ◌+◌, ◌≤◌, ◌<◌, length};
+ghost use Rattle.sheet.specs.Literals.{plain, atom};
+ghost use Rattle.sheet.specs.Enums.{check_of, numbered, number_of, lit};
 ghost use Rattle.sheet.specs.Reading.{read};
-ghost use Rattle.text.specs.Text.{letters, decimal, signed_decimal, Puts};
-ghost use Rattle.prepare.specs.Carried.{plain_table, negated_table, order_table, Tables};
+ghost use Rattle.text.specs.Text.{letters, decimal, signed_decimal, Puts, Adds};
+ghost use Rattle.prepare.specs.Carried.{clause_table, order_table};
+ghost use Rattle.query.specs.Numbers.{numbers_of, verdict_number};
 ghost use Rattle.report.specs.Lines.{field, newline, heading as heading_of, verdict, counts, line as line_of, line_count, line_at};
 
+use prepare::clauses::Literals;
 use prepare::prepare;
-use query::{Reply, ask};
-use sheet::Checked;
-use sheet::bytes::objectives;
-use sheet::literal::{Literal, complement, literal_of};
-use text::{put, put_decimal, put_signed};
+use prepare::ready::Ready;
+use query::ask;
+use query::reply::{Reply, Verdict};
+use sheet::literal::Literal;
+use sheet::{Refusal, Sizes};
+use text::Text;
 
-// The first line of a sheet: how long it is, and what the check of the sheet answered.
-#[derive(Clone, Copy)]
+/// The first line of a sheet: how long it is, and what the check of the sheet answered.
+#[derive(Clone, Copy, Debug, PartialEq, Eq)]
 pub struct Opening {
     pub length: usize,
-    pub checked: Checked,
+    pub checked: Result<Sizes, Refusal>,
 }
 
-// A number as a field: at most 20 digits behind a blank.
-fn put_number(n: u64, at: usize, out: &mut [u8]) -> usize
-    requires { at + 21 ≤ length out.old }
-    ensures puts { Puts (field (decimal n)) at out.old out.new result }
-    ensures upper_bound { result ≤ at + 21 }
+/// A number as a field: at most 20 digits behind a blank.
+#[tactic(auto, using(text::proofs::Decimals::twenty_digits))]
+fn put_number(n: u64, out: &mut Text)
+    requires { out.old.end + 21 ≤ length out.old.bytes.now }
+    ensures adds { Adds (field (decimal n)) out.old out.new }
+    ensures upper_bound { out.new.end ≤ out.old.end + 21 }
 {
-    put_decimal(n, put(b" ", at, out), out)
+    out.put(b" ");
+    out.put_decimal(n);
 }
 
-// A literal as a field.
-fn put_literal(b: u8, at: usize, out: &mut [u8]) -> usize
-    requires { (is_literal 64 b ≡ true) × (at + 22 ≤ length out.old) }
-    ensures puts { Puts (field (signed_decimal (not (plain (literal b))) (atom (literal b)))) at out.old out.new result }
-    ensures upper_bound { result ≤ at + 22 }
+/// A literal as a field.
+#[tactic(auto, using(text::proofs::Decimals::signed_digits))]
+fn put_literal(l: Literal, out: &mut Text)
+    requires { out.old.end + 22 ≤ length out.old.bytes.now }
+    ensures adds { Adds (field (signed_decimal (not (plain (lit l))) (atom (lit l)))) out.old out.new }
+    ensures upper_bound { out.new.end ≤ out.old.end + 22 }
 {
-    match literal_of(b, 64) {
-        Literal::Of(plain, atom) => put_signed(!plain, atom as u64, put(b" ", at, out), out),
-        Literal::Neither => at,
+    out.put(b" ");
+    out.put_signed(!l.plain, u64::from(l.atom));
+}
+
+/// A verdict as a field.
+fn put_verdict(answer: Verdict, out: &mut Text)
+    requires { out.old.end + 21 ≤ length out.old.bytes.now }
+    ensures adds { Adds (field (verdict (verdict_number answer))) out.old out.new }
+    ensures upper_bound { out.new.end ≤ out.old.end + 21 }
+{
+    match answer {
+        Verdict::Yes => out.put(b" yes"),
+        Verdict::No => out.put(b" no"),
+        _ => put_number(u64::from(u8::from(answer)), out),
     }
 }
 
-// An answer as a field.
-fn put_answer(code: u8, at: usize, out: &mut [u8]) -> usize
-    requires { at + 21 ≤ length out.old }
-    ensures puts { Puts (field (verdict code)) at out.old out.new result }
-    ensures upper_bound { result ≤ at + 21 }
+/// The line of a refused sheet.
+fn put_refusal(refusal: Refusal, out: &mut Text)
+    requires { out.old.end + 128 ≤ length out.old.bytes.now }
+    ensures adds { Adds (letters "refused" ++ field (decimal (number_of refusal)) ++ newline) out.old out.new }
+    ensures upper_bound { out.new.end ≤ out.old.end + 128 }
 {
-    if code == 1 {
-        return put(b" yes", at, out);
-    }
-    if code == 2 {
-        return put(b" no", at, out);
-    }
-    put_number(code as u64, at, out)
+    out.put(b"refused");
+    put_number(u64::from(u8::from(refusal)), out);
+    out.put(b"\n");
 }
 
-// The line of a refused sheet.
-fn put_refusal(code: u8, out: &mut [u8]) -> usize
-    requires { 128 ≤ length out.old }
-    ensures puts { Puts (letters "refused" ++ field (decimal code) ++ newline) 0 out.old out.new result }
-    ensures upper_bound { result ≤ 128 }
+/// The first line of an accepted sheet.
+fn put_sizes(sizes: Sizes, out: &mut Text)
+    requires { out.old.end + 128 ≤ length out.old.bytes.now }
+    ensures adds { Adds (letters "sheet" ++ field (decimal sizes.atoms) ++ field (decimal sizes.clauses) ++ field (decimal sizes.objectives) ++ newline) out.old out.new }
+    ensures upper_bound { out.new.end ≤ out.old.end + 128 }
 {
-    put(
-        b"\n",
-        put_number(code as u64, put(b"refused", 0, out), out),
-        out,
-    )
+    out.put(b"sheet");
+    put_number(u64::from(sizes.atoms), out);
+    put_number(sizes.clauses as u64, out);
+    put_number(sizes.objectives as u64, out);
+    out.put(b"\n");
 }
 
-// The first line of an accepted sheet.
-fn put_sizes(atoms: u64, clauses: u64, objectives: u64, out: &mut [u8]) -> usize
-    requires { 128 ≤ length out.old }
-    ensures puts { Puts (letters "sheet" ++ field (decimal atoms) ++ field (decimal clauses) ++ field (decimal objectives) ++ newline) 0 out.old out.new result }
-    ensures upper_bound { result ≤ 128 }
+/// The counts of a reply, to the line's end.
+fn put_counts(reply: Reply, out: &mut Text)
+    requires { out.old.end + 64 ≤ length out.old.bytes.now }
+    ensures adds { Adds (counts (numbers_of (Ok reply))) out.old out.new }
+    ensures upper_bound { out.new.end ≤ out.old.end + 64 }
 {
-    let word = put(b"sheet", 0, out);
-    let n = put_number(atoms, word, out);
-    let m = put_number(clauses, n, out);
-    let k = put_number(objectives, m, out);
-    put(b"\n", k, out)
+    put_number(reply.steps, out);
+    put_number(reply.tests, out);
+    put_number(reply.stored as u64, out);
+    out.put(b"\n");
 }
 
-// The position of an objective, counted from 1.
-fn put_position(i: usize, out: &mut [u8]) -> usize
-    requires { (i < 64) × (20 ≤ length out.old) }
-    ensures puts { Puts (decimal (i + 1)) 0 out.old out.new result }
-    ensures upper_bound { result ≤ 20 }
+/// The line of an objective, with what the query of its complement replied.
+#[tactic(auto, using(text::proofs::Decimals::twenty_digits))]
+fn put_line(i: usize, l: Literal, reply: Reply, out: &mut Text)
+    requires { (i < 64) × (out.old.end + 128 ≤ length out.old.bytes.now) }
+    ensures adds { Adds (line_of i (lit l) (numbers_of (Ok reply))) out.old out.new }
+    ensures upper_bound { out.new.end ≤ out.old.end + 128 }
 {
-    put_decimal(i as u64 + 1, 0, out)
+    out.put_decimal(i as u64 + 1);
+    put_literal(l, out);
+    put_verdict(reply.verdict, out);
+    put_counts(reply, out);
 }
 
-// The counts of a reply, to the line's end.
-fn put_counts(reply: Reply, at: usize, out: &mut [u8]) -> usize
-    requires { at + 64 ≤ length out.old }
-    ensures puts { Puts (counts reply) at out.old out.new result }
-    ensures upper_bound { result ≤ at + 64 }
-{
-    let steps = put_number(reply.steps, at, out);
-    let tests = put_number(reply.tests, steps, out);
-    let stored = put_number(reply.stored as u64, tests, out);
-    put(b"\n", stored, out)
-}
-
-// The line of an objective, with what the query of its complement replied.
-fn put_line(i: usize, b: u8, reply: Reply, out: &mut [u8]) -> usize
-    requires { (i < 64) × ((is_literal 64 b ≡ true) × (128 ≤ length out.old)) }
-    ensures puts { Puts (line_of i (literal b) reply) 0 out.old out.new result }
-    ensures upper_bound { result ≤ 128 }
-{
-    let position = put_position(i, out);
-    let objective = put_literal(b, position, out);
-    let answer = put_answer(reply.code, objective, out);
-    put_counts(reply, answer, out)
-}
-
-// Prepares a sheet and puts its first line, for every byte string.
+/// Prepares a sheet and puts its first line, for every byte string.
 pub fn heading(
     sheet: &[u8],
-    plains: &mut [u64; 1024],
-    negated: &mut [u64; 1024],
+    clauses: &mut [Literals; 1024],
     order: &mut [u8; 128],
     out: &mut [u8; 128],
 ) -> Opening
     ensures text { Puts (heading_of (read sheet.now)) 0 out.old out.new result.length }
-    ensures checked { result.checked ≡ check_of (read sheet.now) }
-    ensures plains { plains.new ≡ plain_table (read sheet.now) plains.old }
-    ensures negated { negated.new ≡ negated_table (read sheet.now) negated.old }
+    ensures checked { numbered result.checked ≡ check_of (read sheet.now) }
+    ensures clauses { clauses.new ≡ clause_table (read sheet.now) clauses.old }
     ensures order { order.new ≡ order_table (read sheet.now) order.old }
     ensures fits { result.length ≤ length out.new }
 {
-    let checked = prepare(sheet, plains, negated, order);
+    let checked = prepare(sheet, clauses, order);
+    let mut text = Text { bytes: out, end: 0 };
     match checked {
-        Checked::Refused(code) => Opening {
-            length: put_refusal(code, out),
-            checked,
-        },
-        Checked::Sizes(atoms, clauses, objectives) => Opening {
-            length: put_sizes(atoms as u64, clauses as u64, objectives as u64, out),
-            checked,
-        },
+        Ok(sizes) => put_sizes(sizes, &mut text),
+        Err(refusal) => put_refusal(refusal, &mut text),
+    }
+    Opening {
+        length: text.end,
+        checked,
     }
 }
 
-// Puts the line of the objective at position i of a sheet whose tables are ready.
-pub fn line(
-    sheet: &[u8],
-    order: &[u8],
-    plains: &[u64],
-    negated: &[u64],
-    i: usize,
-    out: &mut [u8; 128],
-) -> usize
-    requires tables { Tables sheet.now order.now plains.now negated.now }
-    requires i_bound { i < line_count (read sheet.now) }
-    ensures text { Puts (line_at sheet.now i) 0 out.old out.new result }
+/// Puts the line of the objective at position i of a sheet whose tables are ready, and answers how long it is.
+pub fn line(ready: Ready, i: usize, out: &mut [u8; 128]) -> usize
+    requires { i < line_count (read ready.sheet.now) }
+    ensures text { Puts (line_at ready.entry.sheet.now i) 0 out.old out.new result }
     ensures fits { result ≤ length out.new }
 {
-    let b = objectives(sheet)[i];
+    let objective = ready.objectives().at(i);
+    let question = objective.complement().byte();
     let mut store = [0u64; 1024];
     let mut witness = [0u8; 64];
-    let reply = ask(
-        sheet,
-        order,
-        plains,
-        negated,
-        complement(b),
-        1000000,
-        &mut store,
-        &mut witness,
-    );
-    put_line(i, b, reply, out)
+    // An objective's complement is a literal of the sheet, and 64 bytes are room for each of its atoms: it is not refused.
+    let reply = ask(ready, question, 1000000, &mut store, &mut witness).unwrap();
+    let mut text = Text { bytes: out, end: 0 };
+    put_line(i, objective, reply, &mut text);
+    text.end
 }

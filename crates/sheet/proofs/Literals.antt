@@ -72,18 +72,6 @@ byte_of_literal b h = go (ltb b 128) refl
     go true e = ap byte_of (literal_low b (ltb-true b 128 e))
     go false e = let l = ltb-false b 128 e in ap byte_of (literal_high b l h) ∙ omega arith
 
--- ---- the code's tests of a range, of a number r that it has read as x
-
-module _ (low high : ℕ) {r x : ℕ} (e : r ≡ x) where
-  pub read_inside : low ≤ r → r ≤ high → between low high x ≡ true
-  read_inside l h = ap (between low high) (sym e) ∙ between_holds low high r l h
-
-  pub read_below : r < low → between low high x ≡ false
-  read_below l = ap (between low high) (sym e) ∙ between_below low high r l
-
-  pub read_past : high < r → between low high x ≡ false
-  read_past h = ap (between low high) (sym e) ∙ between_past low high r h
-
 -- ---- atoms and their negations as bytes
 
 pub atom_literal : (a : ℕ) → 1 ≤ a → a ≤ 64 → is_literal 64 a ≡ true

@@ -1,12 +1,6 @@
 -- The rows of the document's table: what each says where its tests are known, and what is known where it does not apply. Assumes nothing.
-use Prim.Native.Nat.{ℕ, ◌+◌, ◌≤◌, ◌<◌}
-use mathlib.Core.Bool.{Bool, true, false, not, ◌||◌}
-use mathlib.Core.List.{List, [], ◌∷◌}
-use mathlib.Core.Path.{◌≡◌, sym, ap, ◌∙◌}
-use native.Mathlib.Numerals.{add-one}
-use lib.Dec.{eqb}
-use lib.ListN.{length}
-use borrow.Author.Tests.{lt-ltb, le-ltb, ltb-false, eqb-true, not-false}
+use Rattle.std.proofs.Common.{ℕ, ◌+◌, ◌≤◌, Bool, false, not, ◌||◌, List, [], ◌∷◌, ◌≡◌, sym, ap, ◌∙◌, add-one, eqb, length, ltb-false, eqb-true}
+use borrow.Author.Tests.{not-false}
 use Rattle.sheet.proofs.Literals.{between_says}
 use Rattle.sheet.specs.Layout.{header, atom_count, clause_count, objective_count, literal_count, ends_at, literals_at, objectives_at, total_bytes, clause_start, clause_end, objective_bytes}
 use Rattle.sheet.specs.Literals.{between}
@@ -65,19 +59,11 @@ module _ (s : List ℕ) where
         whole = eqb-true (length s) (header s 7) (not-false _ p.1) ∙ eqb-true (header s 7) (total_bytes s) (not-false _ q.1);
       }
 
-  -- ---- the whole table by its rows
-
-  pub short_yes : length s < 32 → short s ≡ true
-  unfolding short
-  short_yes h = lt-ltb (length s) 32 h
-
-  pub short_no : 32 ≤ length s → short s ≡ false
-  unfolding short
-  short_no h = le-ltb (length s) 32 h
-
   pub short_says : short s ≡ false → 32 ≤ length s
   unfolding short
   short_says e = ltb-false (length s) 32 e
+
+  -- ---- the whole table by its rows
 
   -- the reading, where each row is known to apply or not
   abbrev pub read_by : (a b c d e f : Bool) → Reading

@@ -1,13 +1,9 @@
 -- What an accepted sheet is understood as. Assumes nothing.
-use Prim.Native.Nat.{ℕ, ◌-◌, ◌≤◌}
-use mathlib.Core.Bool.{false}
+use Rattle.std.proofs.Common.{ℕ, ◌-◌, ◌≤◌, false, List, map, ◌≡◌, refl, ◌∙◌, subst, arith, length, drop, length-drop, length-take-le}
 use mathlib.Core.List.Memᴰ.{head}
 use mathlib.Core.List.Memᴰ.{tail}
-use mathlib.Core.List.{List, map, Memᴰ as Mem}
-use mathlib.Core.Path.{◌≡◌, refl, ◌∙◌, subst}
-use native.Mathlib.Omega.{arith}
-use lib.ListN.{length, drop, length-map, length-drop}
-use lib.Seq.{length-take-le}
+use mathlib.Core.List.{Memᴰ as Mem}
+use lib.ListN.{length-map}
 use Rattle.sheet.proofs.ExactlyOne.{Says, exactly_one}
 use Rattle.sheet.proofs.Table.{short_says, counted, placed}
 use Rattle.sheet.specs.Layout.{atom_count, clause_count, objective_count, objectives_at, total_bytes, span, clause_bytes, objective_bytes}
@@ -36,6 +32,9 @@ module _ (s : List ℕ) where
   pub objectives_counted : Whole s → length (sheet_of s).objectives ≡ objective_count s
   unfolding sheet_of
   objectives_counted p = length-map (objective_bytes s) literal ∙ objective_bytes_counted p
+
+-- what the check's returns cite: what is known past each row, and the numbers of what is understood
+pub ruleset table_read = (counted, placed, atoms_are, clauses_counted, objectives_counted)
 
 -- ---- no row applies to an accepted sheet
 

@@ -1,69 +1,99 @@
-// A byte as a literal: its two's complement number, whose sign is the literal's and whose distance from zero is the atom.
-ghost use Rattle.std.specs.Prelude.{◌≡◌, true, ◌≤◌};
-ghost use Rattle.sheet.specs.Literals.{signed as signed_number, literal, is_literal, complement as complement_of};
-ghost use Rattle.sheet.specs.Enums.{literal_answer};
+// Literals, and the bytes that stand for them: a byte's two's complement number has the literal's sign, and is as far from zero as the atom says.
+ghost use Rattle.std.specs.Prelude.{◌≡◌, true, ◌≤◌, ◌<◌, length};
+ghost use Rattle.words.specs.Lists.{all};
+ghost use Rattle.sheet.specs.Literals.{is_literal};
 
-// What a byte is among the literals of some atoms.
-#[derive(Clone, Copy)]
-pub enum Literal {
-    // A literal: whether it is the atom itself and not its negation, and the atom.
-    Of(bool, u8),
-    Neither,
+/// An atom, or its negation. Each has a place in a word of 64 bits.
+#[derive(Clone, Copy, Debug, PartialEq, Eq)]
+pub struct Literal {
+    pub plain: bool,
+    pub atom: u8,
+    pub ghost placed: { (1 ≤ atom) × (atom ≤ 64) },
 }
 
-// The two's complement number of a byte.
-#[tactic(auto, using(crate::proofs::Numbers::small_signed, crate::proofs::Numbers::less_signed))]
-fn signed(b: u8) -> i8
-    ensures { result ≡ signed_number b }
-{
-    if b < 128 {
-        b as i8
-    } else {
-        (b as i16 - 256) as i8
-    }
-}
+impl Literal {
+    ghost use Rattle.std.specs.Option.{option_map};
+    ghost use Rattle.sheet.specs.Literals.{complement, place, byte_of};
+    ghost use Rattle.sheet.specs.Enums.{lit, literal_in};
 
-// The literal that a byte is among n atoms. -128 has no negation, so it is refused before.
-pub fn literal_of(b: u8, n: u8) -> Literal
-    requires { n ≤ 64 }
-    ensures { result ≡ literal_answer n b }
-{
-    let v = signed(b);
-    if v == -128 {
-        return Literal::Neither;
-    }
-    if v == 0 {
-        return Literal::Neither;
-    }
-    if v < 0 {
-        let distance = (-v) as u8;
-        if distance <= n {
-            return Literal::Of(false, distance);
+    /// The literal that a byte is among n atoms; n is a plain number with a bound, which a type for it would not make plainer. -128 has no negation, so it is
+    /// refused before.
+    pub fn read(b: u8, n: u8) -> Option<Literal>
+        requires { n ≤ 64 }
+        ensures { option_map lit result ≡ literal_in n b }
+    {
+        let v = b.cast_signed();
+        if v == -128 {
+            return None;
         }
-        return Literal::Neither;
+        let distance = if v < 0 { -v } else { v } as u8;
+        if distance == 0 || n < distance {
+            return None;
+        }
+        Some(Literal {
+            plain: 0 < v,
+            atom: distance,
+        })
     }
-    let distance = v as u8;
-    if distance <= n {
-        return Literal::Of(true, distance);
+
+    pub fn complement(self) -> Literal
+        ensures { lit result ≡ complement (lit self) }
+    {
+        Literal {
+            plain: !self.plain,
+            atom: self.atom,
+        }
     }
-    Literal::Neither
+
+    /// The position of its atom in a word.
+    pub fn place(self) -> u8
+        ensures { result ≡ place (lit self) }
+    {
+        self.atom - 1
+    }
+
+    /// The byte that stands for it.
+    pub fn byte(self) -> u8
+        ensures { result ≡ byte_of (lit self) }
+    {
+        if self.plain {
+            self.atom
+        } else {
+            255 - self.atom + 1
+        }
+    }
 }
 
-// Whether a byte is a literal of n atoms.
+/// Whether a byte is a literal of n atoms.
 pub fn is_literal(b: u8, n: u8) -> bool
     requires { n ≤ 64 }
     ensures { result ≡ is_literal n b }
 {
-    match literal_of(b, n) {
-        Literal::Of(_, _) => true,
-        Literal::Neither => false,
-    }
+    Literal::read(b, n).is_some()
 }
 
-// The byte of the complement of a literal.
-pub fn complement(b: u8) -> u8
-    requires { is_literal 64 b ≡ true }
-    ensures { (is_literal 64 result ≡ true) × (literal result ≡ complement_of (literal b)) }
-{
-    255 - b + 1
+/// Bytes of which each is a literal.
+#[derive(Clone, Copy, Debug)]
+pub struct LiteralBytes<'a> {
+    pub bytes: &'a [u8],
+    pub ghost literals: { all (is_literal 64) bytes.now ≡ true },
+}
+
+impl LiteralBytes<'_> {
+    ghost use Rattle.sheet.specs.Layout.{byte};
+    ghost use Rattle.sheet.specs.Literals.{literal};
+    ghost use Rattle.sheet.specs.Enums.{lit};
+
+    pub fn len(self) -> usize
+        ensures { result ≡ length self.entry.bytes.now }
+    {
+        self.bytes.len()
+    }
+
+    pub fn at(self, i: usize) -> Literal
+        requires { i < length self.bytes.now }
+        ensures { lit result ≡ literal (byte self.entry.bytes.now i) }
+    {
+        Literal::read(self.bytes[i], 64).unwrap()
+    }
 }

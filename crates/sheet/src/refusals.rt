@@ -3,36 +3,23 @@ ghost use Rattle.std.specs.Prelude.{◌≡◌, ◌≤◌, length};
 ghost use Rattle.words.specs.Lists.{any};
 ghost use Rattle.sheet.specs.Layout.{atom_count, objective_bytes};
 ghost use Rattle.sheet.specs.Reading.{out_of_range, misplaced as is_misplaced, bad_ends, no_literal, bad_literal, bad_objective};
-ghost use Rattle.sheet.specs.Passed.{Counted, Whole};
+ghost use Rattle.sheet.specs.Passed.{Counted};
 
-use crate::bytes::{objectives, word_at};
+use crate::bytes::{Laid, word_at};
 use crate::literal::is_literal;
 
-// 11: whether one of words 0 to 3 is out of range.
+/// 11: whether one of words 0 to 3 is out of range.
+#[tactic(auto, unfolding(crate::specs::Reading::out_of_range))]
 pub fn out_of_range(s: &[u8]) -> bool
     requires { 32 ≤ length s.now }
     ensures { result ≡ out_of_range s.now }
 {
     let n = word_at(s, 0);
-    if n < 1 {
-        return true;
-    }
-    if 64 < n {
-        return true;
-    }
-    if 1024 < word_at(s, 4) {
-        return true;
-    }
-    if 64 < word_at(s, 8) {
-        return true;
-    }
-    if 8192 < word_at(s, 12) {
-        return true;
-    }
-    false
+    n < 1 || 64 < n || 1024 < word_at(s, 4) || 64 < word_at(s, 8) || 8192 < word_at(s, 12)
 }
 
-// 12: whether one of words 4 to 7 is not what words 1 to 3 make it, or the length is not word 7.
+/// 12: whether one of words 4 to 7 is not what words 1 to 3 make it, or the length is not word 7.
+#[tactic(auto, unfolding(crate::specs::Reading::misplaced))]
 pub fn misplaced(s: &[u8]) -> bool
     requires { Counted s.now }
     ensures { result ≡ is_misplaced s.now }
@@ -40,101 +27,56 @@ pub fn misplaced(s: &[u8]) -> bool
     let literals_at = 32 + 4 * word_at(s, 4);
     let objectives_at = literals_at + word_at(s, 12);
     let total = objectives_at + word_at(s, 8);
-    if word_at(s, 16) != 32 {
-        return true;
-    }
-    if word_at(s, 20) != literals_at {
-        return true;
-    }
-    if word_at(s, 24) != objectives_at {
-        return true;
-    }
-    if word_at(s, 28) != total {
-        return true;
-    }
-    if s.len() != total as usize {
-        return true;
-    }
-    false
+    word_at(s, 16) != 32
+        || word_at(s, 20) != literals_at
+        || word_at(s, 24) != objectives_at
+        || word_at(s, 28) != total
+        || s.len() != total as usize
 }
 
-// 13: whether the clause ends fall, or the last one is not the number of literals.
-pub fn bad_ends(s: &[u8]) -> bool
-    requires { Whole s.now }
-    ensures { result ≡ bad_ends s.now }
+/// 13: whether the clause ends fall, or the last one is not the number of literals.
+pub fn bad_ends(sheet: Laid) -> bool
+    ensures { result ≡ bad_ends sheet.entry.bytes.now }
 {
-    let clauses = word_at(s, 4) as usize;
-    let mut start = 0u32;
-    let mut i = 0;
-    while i < clauses {
-        let end = word_at(s, 32 + 4 * i);
+    let mut start = 0;
+    for i in 0..sheet.clauses() {
+        let end = sheet.clause_end(i);
         if end < start {
             return true;
         }
         start = end;
-        i += 1;
     }
-    if start != word_at(s, 12) {
-        return true;
-    }
-    false
+    start != word_at(sheet.bytes, 12) as usize
 }
 
-// Whether some byte is no literal of n atoms.
-fn any_bad(bytes: &[u8], n: u8) -> bool
-    requires { n ≤ 64 }
-    ensures { result ≡ any (no_literal n) bytes.now }
+/// 14: whether some clause byte is no literal.
+#[tactic(auto, unfolding(crate::specs::Reading::bad_literal))]
+pub fn bad_literal(sheet: Laid) -> bool
+    ensures { result ≡ bad_literal sheet.entry.bytes.now }
 {
-    let mut i = 0;
-    while i < bytes.len() {
-        if !is_literal(bytes[i], n) {
-            return true;
-        }
-        i += 1;
-    }
-    false
+    let n = sheet.atoms();
+    let bytes = sheet.literals();
+    bytes.iter().any(|&b| !is_literal(b, n))
 }
 
-// 14: whether some clause byte is no literal.
-pub fn bad_literal(s: &[u8]) -> bool
-    requires { Whole s.now }
-    ensures { result ≡ bad_literal s.now }
+/// 15: whether some objective byte is no literal, or stands twice: the search is left at the first such byte.
+pub fn bad_objective(sheet: Laid) -> bool
+    ensures { result ≡ bad_objective (atom_count sheet.entry.bytes.now) (objective_bytes sheet.entry.bytes.now) }
 {
-    let from = 32 + 4 * word_at(s, 4) as usize;
-    let to = from + word_at(s, 12) as usize;
-    any_bad(&s[from..to], word_at(s, 0) as u8)
-}
-
-// Whether some byte is no literal of n atoms, or stands twice: the search is left at the first such byte.
-fn bad_or_twice(bytes: &[u8], n: u8) -> bool
-    requires { n ≤ 64 }
-    ensures { result ≡ bad_objective n bytes.now }
-{
+    let n = sheet.atoms();
+    let bytes = sheet.objectives();
     let mut bad = false;
-    let mut i = 0;
-    'all: while i < bytes.len() {
-        if is_literal(bytes[i], n) {
-            let mut j = 0;
-            while j < i {
-                if bytes[j] == bytes[i] {
-                    bad = true;
-                    break 'all;
-                }
-                j += 1;
-            }
-        } else {
+    'all: for (i, &b) in bytes.iter().enumerate() {
+        if !is_literal(b, n) {
             bad = true;
             break 'all;
         }
-        i += 1;
+        for &earlier in &bytes[..i] {
+            if earlier == b {
+                bad = true;
+                break 'all;
+            }
+        }
     }
     bad
-}
-
-// 15: whether some objective byte is no literal, or stands twice.
-pub fn bad_objective(s: &[u8]) -> bool
-    requires { Whole s.now }
-    ensures { result ≡ bad_objective (atom_count s.now) (objective_bytes s.now) }
-{
-    bad_or_twice(objectives(s), word_at(s, 0) as u8)
 }

@@ -3,58 +3,48 @@
 
 ghost use Rattle.std.specs.Prelude.{◌≡◌, ◌<◌};
 ghost use Rattle.sheet.specs.Reading.{read};
-ghost use Rattle.prepare.specs.Carried.{Tables};
 ghost use Rattle.report.specs.Lines.{line_count};
 
+use prepare::clauses::Literals;
+use prepare::ready::Ready;
 use report::{heading, line};
-use sheet::Checked;
 
-// Prints the line of an objective, and answers whether it could be written.
-fn print_line(sheet: &[u8], order: &[u8], plains: &[u64], negated: &[u64], i: usize) -> bool
-    requires tables { Tables sheet.now order.now plains.now negated.now }
-    requires i_bound { i < line_count (read sheet.now) }
+/// Prints the line of an objective, and answers whether it could be written: a flag, as `write_all` answers one.
+fn print_line(ready: Ready, i: usize) -> bool
+    requires { i < line_count (read ready.sheet.now) }
 {
     let mut text = [0u8; 128];
-    let end = line(sheet, order, plains, negated, i, &mut text);
+    let end = line(ready, i, &mut text);
     io::write_all(1, &text[..end])
 }
 
-// Prints each line as soon as it is known, and stops where nothing more can be written.
-fn print_lines(sheet: &[u8], order: &[u8], plains: &[u64], negated: &[u64], lines: usize)
-    requires tables { Tables sheet.now order.now plains.now negated.now }
-    requires lines_value { lines ≡ line_count (read sheet.now) }
+/// Prints each line as soon as it is known, and stops where nothing more can be written.
+fn print_lines(ready: Ready, lines: usize)
+    requires { lines ≡ line_count (read ready.sheet.now) }
 {
     for i in 0..lines {
-        if !print_line(sheet, order, plains, negated, i) {
+        if !print_line(ready, i) {
             return;
         }
     }
 }
 
-// Prepares the sheet, prints the first line, and then those of the objectives.
+/// Prepares the sheet, prints the first line, and then those of the objectives.
 fn print(sheet: &[u8]) {
-    let mut plains = [0u64; 1024];
-    let mut negated = [0u64; 1024];
+    let mut clauses = [Literals::default(); 1024];
     let mut order = [0u8; 128];
     let mut text = [0u8; 128];
-    let opening = heading(sheet, &mut plains, &mut negated, &mut order, &mut text);
-    let end = opening.length;
-    let checked = opening.checked;
-    if !io::write_all(1, &text[..end]) {
+    let opening = heading(sheet, &mut clauses, &mut order, &mut text);
+    if !io::write_all(1, &text[..opening.length]) {
         return;
     }
-    match checked {
-        Checked::Refused(_) => {}
-        Checked::Sizes(atoms, clauses, lines) => {
-            let n = atoms as usize;
-            print_lines(
-                sheet,
-                &order[..n],
-                &plains[..clauses],
-                &negated[..clauses],
-                lines,
-            )
-        }
+    if let Ok(sizes) = opening.checked {
+        let ready = Ready {
+            sheet,
+            order: &order[..usize::from(sizes.atoms)],
+            clauses: &clauses[..sizes.clauses],
+        };
+        print_lines(ready, sizes.objectives);
     }
 }
 

@@ -1,61 +1,63 @@
--- Putting a text into a buffer: nothing, a byte more, a text behind another. Assumes nothing.
-use Prim.Native.Nat.{ℕ, suc, ◌+◌, ◌≤◌, ◌<◌}
-use mathlib.Core.List.{List, [], ◌∷◌, ◌++◌, append-nil, append_assoc}
-use mathlib.Core.Path.{◌≡◌, sym, ap, ap₂, ◌∙◌}
-use native.Mathlib.Nat.{add-zero, add_assoc}
-use native.Mathlib.Omega.{arith}
-use lib.ListN.{length, take, drop, set, get_or, length-append, take-append-drop}
-use lib.Seq.{length-take-le, drop-cons, set_at, take_at, append_snoc, drop-append-add, drop-drop}
-use Rattle.text.specs.Text.{written, Puts}
+-- Putting a text into a buffer: a copy over a part of it, nothing, a text behind another. Assumes nothing.
+use Rattle.std.proofs.Common.{ℕ, ◌+◌, ◌-◌, ◌≤◌, ◌≡◌, List, [], ◌++◌, length, take, drop, refl, sym, ap, ap₂, subst, ◌∙◌, arith, length-append, append_assoc}
+use Rattle.std.proofs.Math.Seq.{paste}
+use Rattle.std.proofs.lemmas.List.Edits.{paste_none, paste_all, paste-paste, length-paste}
+use Rattle.std.proofs.lemmas.Slice.{put_mid-paste}
+use borrow.Rule.Slice.PartMut.{put_mid}
+use denote.MutBor.{MutBor}
+use Rattle.text.specs.declared.Text.{Text}
+use Rattle.text.specs.Text.{written, Puts, Adds}
 
-pub nothing_written : (at : ℕ) (b : List ℕ) → written [] at b ≡ b
+-- it is what the library calls a paste
+written_is : (t : List ℕ) (at : ℕ) (b : List ℕ) → written t at b ≡ paste b at t (length t)
 unfolding written
-nothing_written at b = ap₂ (λ (l : List ℕ) (k : ℕ). l ++ drop k b) (append-nil (take at b)) (add-zero at) ∙ take-append-drop at b
+written_is t at b = append_assoc (take at b) t (drop (at + length t) b) ∙ sym (paste_all b at t (length t) refl)
 
-module _ (t : List ℕ) (at : ℕ) (b : List ℕ) where
-  -- how far the text reaches
-  length_front : at ≤ length b → length (take at b ++ t) ≡ at + length t
-  length_front h = length-append (take at b) t ∙ ap (λ (k : ℕ). k + length t) (length-take-le at b h)
+length-written : (t : List ℕ) (at : ℕ) (b : List ℕ) → at + length t ≤ length b → length (written t at b) ≡ length b
+length-written t at b room = ap length (written_is t at b) ∙ length-paste b at t (length t) room (omega arith)
 
-  pub byte_behind : (v : ℕ) → at + length t < length b → set (written t at b) (at + length t) v ≡ written (t ++ (v ∷ [])) at b
-  unfolding written
-  byte_behind v h =
-      let n = at + length t in
-      let front = length_front (omega (arith, h)) in
-      let next : suc n ≡ at + length (t ++ (v ∷ [])) = omega (arith, length-append t (v ∷ [])) in
-      ap (λ (l : List ℕ). set ((take at b ++ t) ++ l) n v) (drop-cons b n 0 h)
-      ∙ set_at (take at b ++ t) (get_or b n 0) (drop (suc n) b) v n front
-      ∙ sym (append_snoc (take at b ++ t) v (drop (suc n) b))
-      ∙ ap₂ (λ (l : List ℕ) (k : ℕ). l ++ drop k b) (append_assoc (take at b) t (v ∷ [])) next
+written_behind : (t u : List ℕ) (at : ℕ) (b : List ℕ) → at ≤ length b → written u (at + length t) (written t at b) ≡ written (t ++ u) at b
+written_behind t u at b h =
+    written_is u (at + length t) (written t at b)
+    ∙ ap (λ (l : List ℕ). paste l (at + length t) u (length u)) (written_is t at b)
+    ∙ paste-paste b at t u (length t) (length u) refl refl h
+    ∙ ap (paste b at (t ++ u)) (sym (length-append t u))
+    ∙ sym (written_is (t ++ u) at b)
 
-  pub written_behind : (u : List ℕ) → at ≤ length b → written u (at + length t) (written t at b) ≡ written (t ++ u) at b
-  unfolding written
-  written_behind u h =
-      let n = at + length t in
-      let front = length_front h in
-      let rest = drop n b in
-      let end : n + length u ≡ at + length (t ++ u) = omega (arith, length-append t u) in
-      let past = ap (λ (k : ℕ). drop (k + length u) ((take at b ++ t) ++ rest)) (sym front) ∙ drop-append-add (take at b ++ t) rest (length u) ∙ drop-drop (length u) n b in
-      ap₂ (λ (x y : List ℕ). (x ++ u) ++ y) (take_at (take at b ++ t) rest n front) past
-      ∙ ap₂ (λ (l : List ℕ) (k : ℕ). l ++ drop k b) (append_assoc (take at b) t u) end
+-- a text copied over a part of the buffer
+pub copied : (t : List ℕ) (s : Text) (part : List ℕ) → s.end + length t ≤ length s.bytes.now → part ≡ t
+    → Adds t s (record { bytes = record s.bytes { now = put_mid s.end (s.end + length t - s.end) s.bytes.now part }; end = s.end + length t })
+copied t s part room same =
+    let is = put_mid-paste s.end (s.end + length t - s.end) s.bytes.now part t (length t) same (omega arith) refl ∙ sym (written_is t s.end s.bytes.now) in record {
+      ends = refl;
+      filled = ap (λ (l : List ℕ). record s.bytes { now = l }) is;
+      long = ap length is ∙ length-written t s.end s.bytes.now room;
+    }
+
+-- nothing put is a text put
+pub nothing_put : (s : Text) → Adds [] s s
+nothing_put s = record { ends = omega arith; filled = ap (λ (l : List ℕ). record s.bytes { now = l }) (paste_none s.bytes.now s.end [] ∙ sym (written_is [] s.end s.bytes.now)); long = refl }
 
 -- a text put behind another
 pub put_behind : {t u : List ℕ} {at : ℕ} {b b' b'' : List ℕ} {e e' : ℕ} → at ≤ length b → Puts t at b b' e → Puts u e b' b'' e' → Puts (t ++ u) at b b'' e'
 put_behind {t} {u} {at} {b} h p q = record {
-  ends = q.ends ∙ ap (λ (k : ℕ). k + length u) p.ends ∙ add_assoc at (length t) (length u) ∙ ap (λ (k : ℕ). at + k) (sym (length-append t u));
-  filled = q.filled ∙ ap₂ (λ (k : ℕ) (o : List ℕ). written u k o) p.ends p.filled ∙ written_behind t at b u h;
+  ends = omega (arith, p.ends, q.ends, length-append t u);
+  filled = q.filled ∙ ap₂ (λ (k : ℕ) (o : List ℕ). written u k o) p.ends p.filled ∙ written_behind t u at b h;
 }
 
-pub same_text : {t u : List ℕ} {at : ℕ} {b b' : List ℕ} {e : ℕ} → t ≡ u → Puts t at b b' e → Puts u at b b' e
-same_text {at} {b} same p = record { ends = p.ends ∙ ap (λ (t : List ℕ). at + length t) same; filled = p.filled ∙ ap (λ (t : List ℕ). written t at b) same }
-
--- nothing put is a text put
-pub nothing_put : (at : ℕ) (b : List ℕ) → Puts [] at b b at
-nothing_put at b = record { ends = sym (add-zero at); filled = sym (nothing_written at b) }
-
--- a byte put behind a text
-pub byte_put : {t : List ℕ} {at : ℕ} {b b' : List ℕ} {e e' : ℕ} (v : ℕ) → e < length b → e' ≡ e + 1 → Puts t at b b' e → Puts (t ++ (v ∷ [])) at b (set b' e v) e'
-byte_put {t} {at} {b} v room next p = record {
-  ends = omega (arith, next, p.ends, length-append t (v ∷ []));
-  filled = ap₂ (λ (o : List ℕ) (k : ℕ). set o k v) p.filled p.ends ∙ byte_behind t at b v (omega (arith, p.ends, room));
+pub added_behind : {t u : List ℕ} {a b c : Text} → a.end ≤ length a.bytes.now → Adds t a b → Adds u b c → Adds (t ++ u) a c
+added_behind {t} {u} {a} {b} h p q = record {
+  ends = omega (arith, p.ends, q.ends, length-append t u);
+  filled =
+      q.filled
+      ∙ ap₂ (λ (k : ℕ) (o : MutBor (List ℕ)). record o { now = written u k o.now }) p.ends p.filled
+      ∙ ap (λ (l : List ℕ). record a.bytes { now = l }) (written_behind t u a.end a.bytes.now h);
+  long = q.long ∙ p.long;
 }
+
+pub same_text : {t u : List ℕ} {a b : Text} → t ≡ u → Adds t a b → Adds u a b
+same_text {a} {b} same p = subst (λ (l : List ℕ). Adds l a b) same p
+
+-- what the lent buffer then holds
+pub as_put : {t : List ℕ} {a b : Text} → Adds t a b → Puts t a.end a.bytes.now b.bytes.now b.end
+as_put p = record { ends = p.ends; filled = ap (λ (o : MutBor (List ℕ)). o.now) p.filled }

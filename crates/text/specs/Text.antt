@@ -1,5 +1,6 @@
 -- Text as bytes: letters, numbers in decimal, and a buffer into which a text has been put.
 use Prim.Native.Char.{code}
+use Rattle.text.specs.declared.Text.{Text}
 use Rattle.std.specs.Prelude.{ℕ, zero, suc, ◌+◌, ◌/◌, ◌%◌, Bool, cond, List, [], ◌∷◌, ◌++◌, ◌≡◌, ltb, length, take, drop}
 use Prim.Native.String.{String, [] as empty, ◌∷◌ as ◌then◌}
 
@@ -33,3 +34,9 @@ written text at before = take at before ++ text ++ drop (at + length text) befor
 pub record Puts (text : List ℕ) (at : ℕ) (before after : List ℕ) (end : ℕ) : Type 0 where
   pub ends : end ≡ at + length text
   pub filled : after ≡ written text at before
+
+-- the text was put behind what stood in the lent buffer, which is still the same one and as long
+pub record Adds (text : List ℕ) (before after : Text) : Type 0 where
+  pub ends : after.end ≡ before.end + length text
+  pub filled : after.bytes ≡ record before.bytes { now = written text before.end before.bytes.now }
+  pub long : length after.bytes.now ≡ length before.bytes.now

@@ -1,43 +1,46 @@
-// Text put into a lent buffer. Each function answers where the text then ends.
+// Text put into a lent buffer, by methods that cannot fail where there is room. `write!` and `Display` would leave an error to handle, and promise the bytes
+// only where there was none.
 #![tactic(auto)]
 
 ghost use Rattle.std.specs.Prelude.{◌+◌, ◌≤◌, length};
-ghost use Rattle.text.specs.Text.{decimal, signed_decimal, Puts};
+ghost use Rattle.text.specs.Text.{decimal, signed_decimal, Adds};
 
-// Puts the bytes of a text.
-pub fn put(text: &[u8], at: usize, out: &mut [u8]) -> usize
-    requires { at + length text.now ≤ length out.old }
-    ensures { Puts text.now at out.old out.new result }
-{
-    let mut i = 0;
-    while i < text.len() {
-        out[at + i] = text[i];
-        i += 1;
-    }
-    at + i
+use itoa::Buffer;
+
+/// A lent buffer, and where the text in it ends: nothing is allocated. How much room is wanted differs from text to text, so each method asks for its own.
+#[derive(Debug, Drop)]
+pub struct Text<'a> {
+    pub bytes: &'a mut [u8],
+    pub end: usize,
 }
 
-// Puts a number in decimal.
-pub fn put_decimal(n: u64, at: usize, out: &mut [u8]) -> usize
-    requires { at + length (decimal n) ≤ length out.old }
-    ensures { Puts (decimal n) at out.old out.new result }
-{
-    if n < 10 {
-        out[at] = 48 + n as u8;
-        return at + 1;
+impl Text<'_> {
+    /// Puts the bytes of a text.
+    pub fn put(&mut self, text: &[u8])
+        requires { self.old.end + length text.now ≤ length self.old.bytes.now }
+        ensures { Adds text.now self.old self.new }
+    {
+        let end = self.end + text.len();
+        self.bytes[self.end..end].copy_from_slice(text);
+        self.end = end;
     }
-    let end = put_decimal(n / 10, at, out);
-    out[end] = 48 + (n % 10) as u8;
-    end + 1
-}
 
-// Puts a number by its sign and its distance from zero.
-pub fn put_signed(minus: bool, n: u64, at: usize, out: &mut [u8]) -> usize
-    requires { at + length (signed_decimal minus n) ≤ length out.old }
-    ensures { Puts (signed_decimal minus n) at out.old out.new result }
-{
-    if minus {
-        return put_decimal(n, put(b"-", at, out), out);
+    /// Puts a number in decimal.
+    pub fn put_decimal(&mut self, n: u64)
+        requires { self.old.end + length (decimal n) ≤ length self.old.bytes.now }
+        ensures { Adds (decimal n) self.old self.new }
+    {
+        self.put(Buffer::new().format(n).as_bytes());
     }
-    put_decimal(n, at, out)
+
+    /// Puts a number by its sign and its distance from zero.
+    pub fn put_signed(&mut self, minus: bool, n: u64)
+        requires { self.old.end + length (signed_decimal minus n) ≤ length self.old.bytes.now }
+        ensures { Adds (signed_decimal minus n) self.old self.new }
+    {
+        if minus {
+            self.put(b"-");
+        }
+        self.put_decimal(n);
+    }
 }

@@ -1,12 +1,10 @@
 -- The contracts of what is asked of a node or a model, and that of the test, determine their results. The last two speak of whatever the words stand
 -- for, so they rest on that the words stand for something; words need not stand for a sheet, and the contracts of the candidate walk, which speak of
 -- one, determine nothing where they do not. Assumes nothing.
-use Prim.Native.Nat.{ℕ, ◌≤◌}
+use Rattle.std.proofs.Common.{ℕ, ◌≤◌, List, [], ◌∷◌, map, ◌≡◌, refl, sym, ap, ap₂, ◌∙◌, subst}
 use mathlib.Core.List.Memᴰ.{of_map}
-use mathlib.Core.List.{List, [], ◌∷◌, map}
-use mathlib.Core.Path.{◌≡◌, refl, sym, ap, ap₂, ◌∙◌, subst}
-use lib.ListN.{length}
-use Rattle.prepare.proofs.Standing.{Fitting, fitting, Words, standing, standing_clauses}
+use mathlib.Core.List.{Memᴰ as Mem}
+use Rattle.prepare.proofs.Standing.{Fitting, fitting, standing, standing_clauses}
 use Rattle.prepare.specs.Carried.{sets_of}
 use Rattle.prepare.specs.declared.clauses.Literals.{Literals}
 use Rattle.search.specs.Search.{Stop, found, spent}
@@ -20,8 +18,8 @@ use Rattle.walk.proofs.node.holds.Kinds as holds_kinds
 use Rattle.walk.proofs.node.holds.Reads as holds
 use Rattle.walk.proofs.node.part_of.Kinds as part_of_kinds
 use Rattle.walk.proofs.node.part_of.Reads as part_of
-use Rattle.walk.proofs.test.seek.Kinds as seek_kinds
-use Rattle.walk.proofs.test.seek.Reads as seek
+use Rattle.walk.proofs.test.Test.seek.Kinds as seek_kinds
+use Rattle.walk.proofs.test.Test.seek.Reads as seek
 use Rattle.walk.specs.Carried.{Stand, told}
 use Rattle.walk.specs.declared.test.Tried.TheVariants.{Missed, Found, Spent}
 use Rattle.walk.specs.declared.test.Tried.{Tried}
@@ -39,17 +37,21 @@ complements_twice : (ls : List Lit) → map complement (map complement ls) ≡ l
 complements_twice [] = refl
 complements_twice (l ∷ ls) = ap₂ ◌∷◌ (complement_twice l) (complements_twice ls)
 
+-- every pair of the clauses has words of 64 bits
+abbrev pub AllFitting : List Literals → Type 0
+AllFitting sets = (c : Literals) → Mem c sets → Fitting c
+
 -- two values that tell the same, whatever the words stand for, are equal: there is something that they stand for
-stood : {A : Type 0} {x y : A} {f : List (List Lit) → List Lit → List Lit → A} {ps ns : List ℕ} {ban node : Literals}
-    → length ps ≡ length ns → Words ps → Words ns → Fitting ban → Fitting node
-    → ((cs : List (List Lit)) (us w : List Lit) → Stand cs us w ps ns ban node → x ≡ f cs us w)
-    → ((cs : List (List Lit)) (us w : List Lit) → Stand cs us w ps ns ban node → y ≡ f cs us w) → x ≡ y
-stood {ps = ps} {ns = ns} {ban = ban} {node = node} even p n fits_ban fits_node tells_x tells_y =
-    let c = standing_clauses ps ns even p n in
+stood : {A : Type 0} {x y : A} {f : List (List Lit) → List Lit → List Lit → A} {sets : List Literals} {ban node : Literals}
+    → AllFitting sets → Fitting ban → Fitting node
+    → ((cs : List (List Lit)) (us w : List Lit) → Stand cs us w sets ban node → x ≡ f cs us w)
+    → ((cs : List (List Lit)) (us w : List Lit) → Stand cs us w sets ban node → y ≡ f cs us w) → x ≡ y
+stood {sets = sets} {ban = ban} {node = node} each fits_ban fits_node tells_x tells_y =
+    let c = standing_clauses sets each in
     let b = standing ban fits_ban in
     let w = standing node fits_node in
     let us = map complement b.0 in
-    let st : Stand c.0 us w.0 ps ns ban node = record {
+    let st : Stand c.0 us w.0 sets ban node = record {
       clauses = c.1;
       banned = b.2 ∙ ap sets_of (sym (complements_twice b.0));
       conditions = λ l m. let u = of_map complement b.0 m in subst (λ (x : Lit). (1 ≤ atom x) × (atom x ≤ 64)) u.2 (complement_placed u.0 (b.1 u.0 u.1));
@@ -59,9 +61,8 @@ stood {ps = ps} {ns = ns} {ban = ban} {node = node} even p n fits_ban fits_node 
     tells_x c.0 us w.0 st ∙ sym (tells_y c.0 us w.0 st)
 
 -- that the lent words have 64 bits is a premise here: of the contents of a slice, that the argument is of its type tells no more than the length
-pub closed_alike : Determines closed_kinds.ps closed_kinds.r (λ κs a. closed.Pre κs a × Words a.0.now × Words a.1.0.now) closed.Post (λ κs x. x)
-closed_alike κs a good pre x y v w p q =
-    (stood pre.0 pre.1 pre.2 (fitting _ good.1.1.0) (fitting _ good.1.1.1.0) p q, refl)
+pub closed_alike : Determines closed_kinds.ps closed_kinds.r (λ κs a. closed.Pre κs a × AllFitting a.0.now) closed.Post (λ κs x. x)
+closed_alike κs a good pre x y v w p q = (stood pre.1 (fitting _ good.1.0) (fitting _ good.1.1.0) p q, refl)
 
 -- ---- the test
 
@@ -76,11 +77,11 @@ untold_told (Missed n) = refl
 untold_told (Found n p) = refl
 untold_told (Spent n) = refl
 
--- with the premise of `closed`
-pub seek_alike : Determines seek_kinds.ps seek_kinds.r (λ κs a. seek.Pre κs a × Words a.1.1.1.0.now × Words a.1.1.1.1.0.now) seek.Post (λ κs x. x)
+-- with the premise of `closed`, and the same of the ban, which stands behind a reference here
+pub seek_alike : Determines seek_kinds.ps seek_kinds.r (λ κs a. seek.Pre κs a × AllFitting a.0.now.network.clauses.now × Fitting a.0.now.ban) seek.Post (λ κs x. x)
 seek_alike κs a good pre x y v w p q = (
   sym (untold_told x)
-      ∙ ap untold (stood pre.0.even pre.1 pre.2 (fitting _ good.1.1.1.1.1.0) (fitting _ good.1.1.1.1.1.1.1.1.0) p.0 q.0)
+      ∙ ap untold (stood pre.1 pre.2 (fitting _ good.1.1.0) p.0 q.0)
       ∙ untold_told y,
   refl,
 )

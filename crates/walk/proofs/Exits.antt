@@ -1,15 +1,12 @@
 -- The walk of a grown tree, as the code leaves it: one law for each way out. Assumes nothing.
-use Prim.Native.Nat.{ℕ, ◌+◌, ◌≤◌, ◌<◌}
-use mathlib.Core.Bool.{Bool, true, false}
-use mathlib.Core.List.{List, [], ◌∷◌, ◌++◌, map}
-use mathlib.Core.Path.{◌≡◌, sym, ap, ◌∙◌}
-use lib.ListN.{length, drop, drop_of_length-le}
-use borrow.Author.Tests.{lt-ltb, le-ltb}
+use Rattle.std.proofs.Common.{ℕ, ◌+◌, ◌≤◌, ◌<◌, Bool, true, false, List, [], ◌∷◌, ◌++◌, map, ◌≡◌, sym, ap, ◌∙◌, length, drop_of_length-le, lt-ltb, le-ltb}
+use Rattle.prepare.specs.declared.network.Network.{Network}
 use Rattle.search.specs.Grown.{Node, grow}
 use Rattle.search.specs.Search.{State, Cut, with_steps, from, visit, visit_candidate}
 use Rattle.search.specs.Tree.{Tree, closed, full, fork, Run, on, off, then, walk}
 use Rattle.sheet.specs.Layout.{byte}
 use Rattle.sheet.specs.Literals.{Lit, literal, complement, plains}
+use Rattle.walk.specs.Carried.{order_from}
 use Rattle.words.proofs.Lists.{onward}
 
 -- ---- a visit
@@ -81,9 +78,9 @@ module _ {S A : Type 0} (visit : S → Run S A) (act : ℕ → S → Run S A) wh
 
 -- ---- what is left of the order
 
-module _ (order : List ℕ) (depth : ℕ) where
-  pub order_next : depth < length order → map literal (drop depth order) ≡ literal (byte order depth) ∷ map literal (drop (depth + 1) order)
-  order_next h = ap (map literal) (onward 0 order depth h)
+module _ (n : Network) (depth : ℕ) where
+  pub order_next : depth < length n.order.bytes.now → {l : Lit} → l ≡ literal (byte n.order.bytes.now depth) → order_from depth n ≡ l ∷ order_from (depth + 1) n
+  order_next h e = ap (map literal) (onward 0 n.order.bytes.now depth h) ∙ ap (λ (l : Lit). l ∷ order_from (depth + 1) n) (sym e)
 
-  pub order_end : length order ≤ depth → map literal (drop depth order) ≡ []
-  order_end h = ap (map literal) (drop_of_length-le order h)
+  pub order_end : length n.order.bytes.now ≤ depth → order_from depth n ≡ []
+  order_end h = ap (map literal) (drop_of_length-le n.order.bytes.now h)

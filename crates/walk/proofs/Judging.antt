@@ -1,34 +1,26 @@
 -- What a candidate does, as the code carries it: the ban of its test, the stored parts, and how the walk goes on. Assumes nothing.
-use Prim.Native.Nat.{ℕ, suc, ◌+◌, ◌-◌, ◌≤◌, ◌<◌}
-use mathlib.Core.Bool.{Bool, true, false, cond, ◌||◌}
-use mathlib.Core.List.Memᴰ.{cases_cons}
-use mathlib.Core.List.Memᴰ.{eq_of_singleton}
-use mathlib.Core.List.Memᴰ.{of_map}
-use mathlib.Core.List.{List, [], ◌∷◌, map, Memᴰ as Mem}
-use mathlib.Core.Logic.{⊎_elim}
-use mathlib.Core.Path.{◌≡◌, refl, sym, ap, ◌∙◌, subst}
-use native.Mathlib.Nat.{le_trans}
-use native.Mathlib.Numerals.{add-one}
-use native.Mathlib.Omega.{arith}
-use lib.ListN.{length, get_or, take, drop, set}
-use lib.Seq.{drop-drop, drop-length, length-take-le, take-suc, take-suc-set}
-use borrow.Author.Tests.{lt-ltb, le-ltb}
+use Rattle.std.proofs.Common.{ℕ, ◌+◌, ◌-◌, ◌≤◌, ◌<◌, true, false, List, [], ◌∷◌, map, ◌≡◌, refl, sym, ap, ◌∙◌, subst, arith, add-one, length, take, drop, ⊎_elim, set, le_trans, drop-drop, length-take-le, take-suc-set, lt-ltb, le-ltb}
+use Rattle.std.proofs.Math.Seq.{drop-length}
+use mathlib.Core.List.Memᴰ.{cases_cons, eq_of_singleton, of_map}
+use mathlib.Core.List.{Memᴰ as Mem}
 use Rattle.prepare.specs.Carried.{sets_of, negated, Placed}
+use Rattle.prepare.specs.declared.clauses.Literals.{Literals}
 use Rattle.search.specs.Grown.{game, posed}
 use Rattle.search.specs.Models.{holds, part}
-use Rattle.search.specs.Search.{State, Yes, Cut, NoPlace, spent, found, with_steps, with_test, with_part, store, settle, meet, test, judge}
+use Rattle.search.specs.Search.{State, NoPlace, found, with_steps, with_test, with_part, store, settle, meet, test, judge}
 use Rattle.search.specs.Tree.{on, off}
-use Rattle.sheet.specs.Layout.{byte}
+use Rattle.sheet.proofs.LiteralBytes.{in_atoms, complement_placed}
+use Rattle.sheet.specs.Enums.{lit}
 use Rattle.sheet.specs.Literals.{Lit, pos, neg, atom, literal, is_literal, complement, plains}
 use Rattle.sheet.specs.Order.{branch}
 use Rattle.sheet.specs.Reading.{Sheet}
-use Rattle.sheet.proofs.LiteralBytes.{in_atoms, complement_placed}
+use Rattle.sheet.specs.declared.literal.Literal.{Literal}
+use Rattle.sheet.specs.declared.literal.LiteralBytes.{LiteralBytes}
+use Rattle.walk.proofs.Sets.{lit_placed}
 use Rattle.walk.specs.Carried.{meet_part, test_below, Onward}
 use Rattle.walk.specs.declared.candidates.Walked.{Walked}
-use Rattle.words.proofs.Bools.{or_false}
-use Rattle.words.proofs.Lists.{onward}
-use Rattle.words.proofs.Members.{any_append, any_cons, all_out, pick_yes, pick_no, pick_out}
-use Rattle.words.specs.Lists.{any, all, pick}
+use Rattle.words.proofs.Members.{all_out, pick_out}
+use Rattle.words.specs.Lists.{any, pick}
 use Rattle.words.specs.Positions.{strictly_within, set_of}
 
 pub complement_twice : (l : Lit) → complement (complement l) ≡ l
@@ -39,6 +31,10 @@ complement_twice (neg a) = refl
 pub root_is : record { plains = 0; negated = 0 } ≡ sets_of []
 unfolding plains negated set_of
 root_is = refl
+
+-- a set whose two words are nothing is that of the root
+pub none_is : {n : Literals} → n.plains ≡ 0 → n.negated ≡ 0 → n ≡ record { plains = 0; negated = 0 }
+none_is e f = λ i. record { plains = e i; negated = f i }
 
 -- ---- the ban of a test
 
@@ -51,26 +47,6 @@ module _ (os : List ℕ) (m : ℕ) where
   unfolding plains negated set_of
   banned_none = ap (λ (l : List ℕ). sets_of (map complement (pick (holds m) (map literal l)))) (sym (drop-length os))
 
-  -- one objective further back
-  pub banned_back : (i : ℕ) {b : Bool} → 0 < i → i ≤ length os → holds m (literal (byte os (i - 1))) ≡ b
-      → banned_from os m (i - 1) ≡ cond b (complement (literal (byte os (i - 1))) ∷ banned_from os m i) (banned_from os m i)
-  banned_back i {b} some h e =
-      let at : i - 1 + 1 ≡ i = omega arith in
-      ap (λ (l : List ℕ). map complement (pick (holds m) (map literal l))) (onward 0 os (i - 1) (omega arith) ∙ ap (λ (k : ℕ). byte os (i - 1) ∷ drop k os) at) ∙ first b e
-    where
-      first : (b : Bool) → holds m (literal (byte os (i - 1))) ≡ b
-          → map complement (pick (holds m) (literal (byte os (i - 1)) ∷ map literal (drop i os))) ≡ cond b (complement (literal (byte os (i - 1))) ∷ banned_from os m i) (banned_from os m i)
-      first true e = ap (map complement) (pick_yes (holds m) (literal (byte os (i - 1))) (map literal (drop i os)) e)
-      first false e = ap (map complement) (pick_no (holds m) (literal (byte os (i - 1))) (map literal (drop i os)) e)
-
--- ---- the stored parts, the newest first
-
-pub any_back : (f : ℕ → Bool) (xs : List ℕ) (i : ℕ) {b : Bool} → 0 < i → i ≤ length xs → f (get_or xs (i - 1) 0) ≡ b → any f (take i xs) ≡ (any f (take (i - 1) xs) || b)
-any_back f xs i some h e =
-    let up : i ≡ suc (i - 1) = omega arith in
-    ap (λ (k : ℕ). any f (take k xs)) up ∙ ap (any f) (take-suc xs (i - 1) 0 (omega arith)) ∙ any_append f (take (i - 1) xs) (get_or xs (i - 1) 0 ∷ [])
-    ∙ ap (λ (x : Bool). any f (take (i - 1) xs) || x) (any_cons f (get_or xs (i - 1) 0) [] ∙ or_false (f (get_or xs (i - 1) 0)) ∙ e)
-
 -- ---- how the walk goes on after a test
 
 abbrev state : (steps tests : ℕ) → List ℕ → State
@@ -79,12 +55,6 @@ state n t ps = record { steps = n; tests = t; stored = ps }
 module _ (m n k : ℕ) (before : List ℕ) (s : State) {t : ℕ} (et : s.tests ≡ t) (es : s.stored ≡ take k before) where
   same_state : state n t (take k before) ≡ with_steps s n
   same_state = λ i. state n (sym et i) (sym es i)
-
-  pub settle_missed : off (state n t (take k before)) (Yes m) ≡ settle (length before) m s (on n)
-  settle_missed = ap (λ (x : State). off x (Yes m)) same_state
-
-  pub settle_spent : off (state n t (take k before)) Cut ≡ settle (length before) m s (off n spent)
-  settle_spent = ap (λ (x : State). off x Cut) same_state
 
   module _ (p : ℕ) where
     pub settle_stored : k < length before → on (state n t (take (k + 1) (set before k p))) ≡ settle (length before) m s (off n (found p))
@@ -114,16 +84,16 @@ module _ (x : Sheet) (q : Lit) (allowance places m : ℕ) (s : State) {p : ℕ} 
   judge_tests e = rw (ap (λ (r : ℕ). any (strictly_within r) s.stored) (sym ep) ∙ e, judge)
 
 -- the literals that must hold in a walk all have a place: the question of the candidate walk, and what a test asks for
-pub question_placed : (b : ℕ) → is_literal 64 b ≡ true → Placed (literal b ∷ [])
-question_placed b lit l h = subst (λ (x : Lit). (1 ≤ atom x) × (atom x ≤ 64)) (sym (eq_of_singleton h)) (in_atoms b lit)
+pub question_placed : (q : Literal) → Placed (lit q ∷ [])
+question_placed q l h = subst (λ (x : Lit). (1 ≤ atom x) × (atom x ≤ 64)) (sym (eq_of_singleton h)) (lit_placed q)
 
-pub conditions_placed : (os : List ℕ) (m b : ℕ) → all (is_literal 64) os ≡ true → is_literal 64 b ≡ true → Placed (complement (literal b) ∷ pick (holds m) (map literal os))
-conditions_placed os m b each lit l h = ⊎_elim (λ e. subst (λ (x : Lit). (1 ≤ atom x) × (atom x ≤ 64)) (sym e) (complement_placed (literal b) (in_atoms b lit))) kept (cases_cons h)
+pub conditions_placed : (os : LiteralBytes) (m : ℕ) (q : Literal) → Placed (complement (lit q) ∷ pick (holds m) (map literal os.bytes.now))
+conditions_placed os m q l h = ⊎_elim (λ e. subst (λ (x : Lit). (1 ≤ atom x) × (atom x ≤ 64)) (sym e) (complement_placed (lit q) (lit_placed q))) kept (cases_cons h)
   where
-    kept : Mem l (pick (holds m) (map literal os)) → (1 ≤ atom l) × (atom l ≤ 64)
+    kept : Mem l (pick (holds m) (map literal os.bytes.now)) → (1 ≤ atom l) × (atom l ≤ 64)
     kept k =
-        let u = of_map literal os (pick_out (holds m) (map literal os) l k).0 in
-        subst (λ (x : Lit). (1 ≤ atom x) × (atom x ≤ 64)) u.2 (in_atoms u.0 (all_out (is_literal 64) os each u.0 u.1))
+        let u = of_map literal os.bytes.now (pick_out (holds m) (map literal os.bytes.now) l k).0 in
+        subst (λ (x : Lit). (1 ≤ atom x) × (atom x ≤ 64)) u.2 (in_atoms u.0 (all_out (is_literal 64) os.bytes.now os.literals u.0 u.1))
 
 -- ---- from one state of the store to the next
 

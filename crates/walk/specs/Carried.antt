@@ -3,15 +3,20 @@
 use Rattle.std.specs.Prelude.{ℕ, ◌≤◌, Bool, true, false, List, [], ◌∷◌, ◌++◌, map, ◌≡◌, length, take, drop}
 use Rattle.prepare.specs.Carried.{sets_of, Placed, Clauses, Prepared}
 use Rattle.prepare.specs.declared.clauses.Literals.{Literals}
+use Rattle.prepare.specs.declared.network.Network.{Network}
 use Rattle.search.specs.Grown.{falsified, unit, grow, candidate_clauses, posed}
 use Rattle.search.specs.Models.{part}
 use Rattle.search.specs.Search.{State, start, Answer, Yes, Cut, NoPlace, Stop, spent, found, visit, visit_candidate, settle, judge, search as searched, answered}
 use Rattle.search.specs.Tree.{Run, on, off, walk}
+use Rattle.sheet.specs.Enums.{lit}
 use Rattle.sheet.specs.Literals.{Lit, complement, literal}
 use Rattle.sheet.specs.Reading.{Sheet}
+use Rattle.sheet.specs.declared.literal.Literal.{Literal}
 use Rattle.walk.specs.declared.candidates.Ending.TheVariants.{Going, Affirmed, Exhausted, Full}
 use Rattle.walk.specs.declared.candidates.Ending.{Ending}
+use Rattle.walk.specs.declared.candidates.Search.{Search}
 use Rattle.walk.specs.declared.candidates.Walked.{Walked}
+use Rattle.walk.specs.declared.test.Test.{Test}
 use Rattle.walk.specs.declared.test.Tried.TheVariants.{Missed, Found, Spent}
 use Rattle.walk.specs.declared.test.Tried.{Tried}
 use Rattle.words.specs.Positions.{strictly_within}
@@ -19,16 +24,16 @@ use Rattle.words.specs.Positions.{strictly_within}
 -- ---- a node
 
 -- the clauses cs, the literals us that must hold and the node w, as the code's words: its ban has the complements of us
-pub record Stand (cs : List (List Lit)) (us w : List Lit) (ps ns : List ℕ) (ban node : Literals) : Type 0 where
-  pub clauses : Clauses cs ps ns
+pub record Stand (cs : List (List Lit)) (us w : List Lit) (sets : List Literals) (ban node : Literals) : Type 0 where
+  pub clauses : Clauses cs sets
   pub banned : ban ≡ sets_of (map complement us)
   pub conditions : Placed us
   pub made : node ≡ sets_of w
   pub decided : Placed w
 
 -- whatever the words stand for, b tells whether the node is closed
-abbrev pub TellsClosed : (ps ns : List ℕ) (ban node : Literals) → Bool → Type 0
-TellsClosed ps ns ban node b = (cs : List (List Lit)) (us w : List Lit) → Stand cs us w ps ns ban node → b ≡ falsified (map unit us ++ cs) w
+abbrev pub TellsClosed : List Literals → (ban node : Literals) → Bool → Type 0
+TellsClosed sets ban node b = (cs : List (List Lit)) (us w : List Lit) → Stand cs us w sets ban node → b ≡ falsified (map unit us ++ cs) w
 
 -- ---- a test
 
@@ -52,11 +57,15 @@ steps_of (Missed n) = n
 steps_of (Found n p) = n
 steps_of (Spent n) = n
 
--- whatever the words stand for, r tells the test of a candidate with the part p below the node, where the order is tried from a depth on
-abbrev pub TellsTest : (order os ps ns : List ℕ) (depth : ℕ) (ban node : Literals) (p allowance steps : ℕ) → Tried → Type 0
-TellsTest order os ps ns depth ban node p allowance steps r =
-    (cs : List (List Lit)) (us w : List Lit) → Stand cs us w ps ns ban node
-    → told r ≡ test_below cs us (map literal os) (map literal (drop depth order)) w p allowance steps
+-- the literals of the order from a depth on
+abbrev pub order_from : ℕ → Network → List Lit
+order_from depth n = map literal (drop depth n.order.bytes.now)
+
+-- whatever the words stand for, r tells the test t below the node, where the order is tried from a depth on
+abbrev pub TellsTest : (t : Test) (depth : ℕ) (node : Literals) (steps : ℕ) → Tried → Type 0
+TellsTest t depth node steps r =
+    (cs : List (List Lit)) (us w : List Lit) → Stand cs us w t.network.clauses.now t.ban node
+    → told r ≡ test_below cs us (map literal t.network.objectives.bytes.now) (order_from depth t.network) w t.candidate t.allowance steps
 
 -- ---- the candidate walk
 
@@ -92,29 +101,29 @@ pub record Onward (stored : ℕ) (r : Walked) (before after : List ℕ) : Type 0
   pub grown : stored ≤ r.stored
   pub rest : drop r.stored after ≡ drop r.stored before
 
--- r tells how a walk with so many tests and parts stored goes on after the test of a model
-abbrev pub TellsSettled : Tried → (model tests stored : ℕ) → Walked → (before after : List ℕ) → Type 0
-TellsSettled tried model tests stored r before after =
-    (s : State) → s.tests ≡ tests → s.stored ≡ parts_in stored before → run_of r after ≡ settle (length before) model s (told tried)
+-- r tells how the walk w, in which the test of a model is counted, goes on after that test
+abbrev pub TellsSettled : Tried → (model : ℕ) (w r : Walked) → (before after : List ℕ) → Type 0
+TellsSettled tried model w r before after =
+    (s : State) → s.tests ≡ w.tests → s.stored ≡ parts_in w.stored before → run_of r after ≡ settle (length before) model s (told tried)
 
--- whatever sheet the tables stand for, r tells what the walk w comes to by the candidate `model`
-abbrev pub TellsJudged : (order os ps ns : List ℕ) (question allowance model : ℕ) (w r : Walked) (before after : List ℕ) → Type 0
-TellsJudged order os ps ns question allowance model w r before after =
-    (x : Sheet) → Prepared x order os ps ns
-    → run_of r after ≡ judge (posed x (literal question)) allowance (length before) model (state_of w before)
+-- whatever sheet the search s is of, r tells what the walk w comes to by the candidate `model`
+abbrev pub TellsJudged : (s : Search) (model : ℕ) (w r : Walked) (before after : List ℕ) → Type 0
+TellsJudged s model w r before after =
+    (x : Sheet) → Prepared x s.network
+    → run_of r after ≡ judge (posed x (lit s.question)) s.allowance (length before) model (state_of w before)
 
 -- the candidate walk below the node w, where the literals ls are still to be tried
 abbrev pub candidates_below : (x : Sheet) (q : Lit) (allowance places : ℕ) (ls w : List Lit) → State → Run State Answer
 candidates_below x q allowance places ls w =
     walk (visit_candidate allowance) (judge (posed x q) allowance places) (grow (falsified (candidate_clauses x q)) ls w)
 
--- whatever sheet and node the words stand for, r tells what the walk w comes to below the node, where the order is tried from a depth on
-abbrev pub TellsRoamed : (order os ps ns : List ℕ) (depth question allowance : ℕ) (ban node : Literals) (w r : Walked) (before after : List ℕ) → Type 0
-TellsRoamed order os ps ns depth question allowance ban node w r before after =
-    (x : Sheet) (v : List Lit) → Prepared x order os ps ns → Stand x.clauses (literal question ∷ []) v ps ns ban node
-    → run_of r after ≡ candidates_below x (literal question) allowance (length before) (map literal (drop depth order)) v (state_of w before)
+-- whatever sheet and node the search s is of, r tells what the walk w comes to below the node, where the order is tried from a depth on
+abbrev pub TellsRoamed : (s : Search) (depth : ℕ) (node : Literals) (w r : Walked) (before after : List ℕ) → Type 0
+TellsRoamed s depth node w r before after =
+    (x : Sheet) (v : List Lit) → Prepared x s.network → Stand x.clauses (lit s.question ∷ []) v s.network.clauses.now s.ban node
+    → run_of r after ≡ candidates_below x (lit s.question) s.allowance (length before) (order_from depth s.network) v (state_of w before)
 
--- whatever sheet the tables stand for, r tells the search of it for the question
-abbrev pub TellsSearched : (order os ps ns : List ℕ) (question allowance : ℕ) → Walked → (before after : List ℕ) → Type 0
-TellsSearched order os ps ns question allowance r before after =
-    (x : Sheet) → Prepared x order os ps ns → run_of r after ≡ searched (posed x (literal question)) allowance (length before)
+-- whatever sheet the network is of, r tells the search of it for the question
+abbrev pub TellsSearched : (n : Network) (question : Literal) (allowance : ℕ) → Walked → (before after : List ℕ) → Type 0
+TellsSearched n question allowance r before after =
+    (x : Sheet) → Prepared x n → run_of r after ≡ searched (posed x (lit question)) allowance (length before)

@@ -1,15 +1,11 @@
 -- From words to positions and back: what `and`, `or`, a power of two and one position more do to each position. Assumes nothing.
-use Prim.Native.Nat.{ℕ, zero, suc, ◌+◌, ◌*◌, ◌/◌, ◌%◌, ◌^◌, ◌≤◌, ◌<◌, min, max}
-use mathlib.Core.Bool.{Bool, true, false, cond, ◌&&◌, ◌||◌, false≢true}
-use mathlib.Core.List.{List, [], ◌∷◌}
-use mathlib.Core.Path.{◌≡◌, refl, sym, ap, ◌∙◌}
-use native.Mathlib.Nat.{div-one, one-mul, lt_of_lt_of_le, div-eq_of_lt}
-use native.Mathlib.Omega.{arith}
+use Rattle.std.proofs.Common.{ℕ, zero, suc, ◌+◌, ◌*◌, ◌/◌, ◌%◌, ◌^◌, ◌≤◌, ◌<◌, min, max, Bool, true, false, cond, ◌&&◌, ◌||◌, List, [], ◌∷◌, ◌≡◌, refl, sym, ap, ◌∙◌, div-one, one-mul, lt_of_lt_of_le, arith, bit_and, bit_or, eqb, lit<, pow_mono, shl_exact, shr-shr, ne_eqb, eqb-true}
+use mathlib.Core.Bool.{false≢true}
+use native.Mathlib.Nat.{div-eq_of_lt}
 use lib.Arith.{bin_ind, digits_mod}
-use lib.Bits.{bit_and, bit_or, and_step, or_step, and_shr, or_shr, or_disjoint, shifted_half, shifted_even}
-use lib.Dec.{eqb, eqb-suc-suc, eqb-suc-zero, eqb-zero-suc, lit<}
-use lib.Pow.{pow_mono, shl_exact, shr-shr, shr_le}
-use borrow.Author.Tests.{ne_eqb, eqb-true}
+use lib.Bits.{and_step, or_step, and_shr, or_shr, or_disjoint, shifted_half, shifted_even}
+use lib.Dec.{eqb-suc-suc, eqb-suc-zero, eqb-zero-suc}
+use lib.Pow.{shr_le}
 use Rattle.words.proofs.Bools.{or_true, or_false, and_false}
 use Rattle.words.specs.Lists.{any}
 use Rattle.words.specs.Positions.{has, adding, set_of}
@@ -87,6 +83,14 @@ has_none i = ne_eqb (0 / 2 ^ i % 2) 1 (λ e. omega (arith, shr_le 0 i))
 pub has_past : (w k i : ℕ) → w < 2 ^ k → k ≤ i → has w i ≡ false
 unfolding has
 has_past w k i h le = ap (λ (x : ℕ). eqb (x % 2) 1) (div-eq_of_lt (lt_of_lt_of_le h (pow_mono le)))
+
+-- the positions of a word of 64 bits, as a shift finds them
+pub has_shifted : (w i : ℕ) → has w i ≡ eqb (w / 2 ^ i % 2) 1
+unfolding has
+has_shifted w i = refl
+
+pub has_no_more : (w i : ℕ) → w < 2 ^ 64 → 64 ≤ i → has w i ≡ false
+has_no_more w i = has_past w 64 i
 
 -- ---- two words with the same positions are equal
 

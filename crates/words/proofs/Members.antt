@@ -1,6 +1,6 @@
 -- Tests over lists by the members of the list, and lists in which no entry stands twice. Assumes nothing.
-use Prim.Native.Nat.{ℕ, zero, suc, ◌≤◌, ◌<◌}
-use mathlib.Core.Bool.{Bool, true, false, ◌&&◌, ◌||◌, false≢true}
+use Rattle.std.proofs.Common.{ℕ, zero, suc, ◌≤◌, ◌<◌, Bool, true, false, ◌&&◌, ◌||◌, List, [], ◌∷◌, ◌++◌, ⊎_elim, ◌≡◌, refl, sym, ap, ◌∙◌, eq-or-lt_of_le, le_of_suc-le-suc, arith, length, get_or}
+use mathlib.Core.Bool.{false≢true}
 use mathlib.Core.List.Memᴰ.{append_cases}
 use mathlib.Core.List.Memᴰ.{append_left}
 use mathlib.Core.List.Memᴰ.{append_right}
@@ -10,12 +10,9 @@ use mathlib.Core.List.Memᴰ.{eq_of_singleton}
 use mathlib.Core.List.Memᴰ.{head}
 use mathlib.Core.List.Memᴰ.{not-nil}
 use mathlib.Core.List.Memᴰ.{tail}
-use mathlib.Core.List.{List, [], ◌∷◌, ◌++◌, Memᴰ as Mem}
-use mathlib.Core.Logic.{⊎_elim}
-use mathlib.Core.Path.{◌≡◌, refl, sym, ap, ◌∙◌}
-use native.Mathlib.Nat.{eq-or-lt_of_le, le_of_suc-le-suc}
-use native.Mathlib.Omega.{arith}
-use lib.ListN.{length, get_or}
+use mathlib.Core.List.{Memᴰ as Mem}
+use Rattle.std.specs.Bool.{MatchBool}
+use Rattle.words.proofs.Bools.{refuted}
 use Rattle.words.specs.Lists.{any, all, pick, below, Distinct}
 
 -- ---- tests and members
@@ -120,6 +117,12 @@ module _ {A : Type 0} (d : A) where
   at_mem [] x h = absurd (not-nil h)
   at_mem (y ∷ xs) x h =
       ⊎_elim (λ e. (0, omega arith, sym e)) (λ k. let u = at_mem xs x k in (suc u.0, (let lt = u.1 in omega arith), u.2)) (cases_cons h)
+
+  -- a test of the whole list by what was found of its places
+  pub any_found : (f : A → Bool) (xs : List A) {r : Bool} → MatchBool r ((k : ℕ) × (k < length xs) × (f (get_or xs k d) ≡ true)) ((k : ℕ) → k < length xs → f (get_or xs k d) ≡ false) → r ≡ any f xs
+  any_found f xs {r = true} u = sym (any_in f xs (get_or xs u.0 d) (mem_at xs u.0 u.1) u.2)
+  any_found f xs {r = false} each =
+      sym (refuted (any f xs) (λ e. let u = any_out f xs e in let v = at_mem xs u.0 u.1 in false≢true (sym (each v.0 v.1) ∙ ap f v.2 ∙ u.2)))
 
 -- ---- the numbers below n
 

@@ -4,7 +4,8 @@
 ghost use Rattle.std.specs.Prelude.{◌≡◌, ◌<◌};
 ghost use Rattle.words.specs.Positions.{has as has_position, adding as adding_position, within as lies_within, strictly_within};
 
-// Whether position i is in the set w.
+/// Whether position i is in the set w.
+#[tactic(auto, using(crate::proofs::Bits::has_shifted, crate::proofs::Bits::has_no_more))]
 pub fn has(w: u64, i: u8) -> bool
     ensures { result ≡ has_position w i }
 {
@@ -14,7 +15,7 @@ pub fn has(w: u64, i: u8) -> bool
     (w >> i) % 2 == 1
 }
 
-// The set w with position i.
+/// The set w with position i.
 pub fn adding(w: u64, i: u8) -> u64
     requires { i < 64 }
     ensures { result ≡ adding_position w i }
@@ -22,25 +23,21 @@ pub fn adding(w: u64, i: u8) -> u64
     w | (1u64 << i)
 }
 
-// Whether every position of a is one of b.
+/// Whether every position of a is one of b.
 pub fn within(a: u64, b: u64) -> bool
     ensures { result ≡ lies_within a b }
 {
-    let mut i = 0u8;
-    while i < 64 {
-        if has(a, i) {
-            if !has(b, i) {
-                return false;
-            }
+    for i in 0..64 {
+        if has(a, i) && !has(b, i) {
+            return false;
         }
-        i += 1;
     }
     true
 }
 
-// Whether a lies within b, and b has a position more.
+/// Whether a lies within b, and b has a position more.
 pub fn strictly_within(a: u64, b: u64) -> bool
     ensures { result ≡ strictly_within a b }
 {
-    if within(a, b) { !within(b, a) } else { false }
+    within(a, b) && !within(b, a)
 }

@@ -1,11 +1,8 @@
 -- `query::write_values`: after i turns the first i bytes are the values of the first i atoms, and the others what they were.
-use Rattle.std.proofs.Common.{◌≡◌, ◌≤◌, ◌-◌, length}
+use Rattle.std.proofs.Common.{◌≡◌}
 use Rattle.query.proofs.write_values.Given as goal
 use Rattle.query.specs.Query.{values_of}
 use Rattle.words.specs.Lists.{over}
 
 abbrev pub invariant-loop-i : goal.invariant-loop-i
-invariant-loop-i l = (l.i ≤ l.n) × (length l.witness ≡ length l.fn.witness) × (l.witness ≡ over (values_of l.i l.model) l.fn.witness)
-
-abbrev pub decreases-loop-i : goal.decreases-loop-i
-decreases-loop-i l = l.n - l.i
+invariant-loop-i l = l.witness ≡ over (values_of l.i l.model) l.fn.witness

@@ -1,12 +1,11 @@
 -- `report::put_line`: the four pieces of the line, one behind the other. Assumes nothing.
-use Rattle.std.proofs.Common.{arith}
+use Rattle.std.proofs.Common.{◌≤◌, length, arith}
 use Rattle.report.proofs.put_line.Goals as goal
 use Rattle.report.specs.Lines.{line}
-use Rattle.text.proofs.Written.{put_behind}
+use Rattle.text.proofs.Written.{added_behind}
 
-pub returns-clause-puts : goal.returns-clause-puts
+pub returns-clause-adds : goal.returns-clause-adds
 unfolding line
-returns-clause-puts c =
-    let objective = put_behind (omega arith) c.put_position-position.ensures.puts c.put_literal-objective.ensures.puts in
-    let answer = put_behind (omega arith) objective c.put_answer-answer.ensures.puts in
-    put_behind (omega arith) answer c.put_counts.ensures.puts
+returns-clause-adds c =
+    let room : c.args.out.now.end ≤ length c.args.out.now.bytes.now = omega (arith, c.requires.1) in
+    added_behind room (added_behind room (added_behind room c.put_decimal.ensures c.put_literal.ensures.adds) c.put_verdict.ensures.adds) c.put_counts.ensures.adds

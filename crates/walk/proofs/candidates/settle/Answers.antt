@@ -6,12 +6,12 @@ use Rattle.walk.proofs.candidates.settle.Goals as goal
 use Rattle.walk.specs.Carried.{told}
 use Rattle.walk.specs.declared.test.Tried.{Tried}
 
-pub returns-then-stored-store-clause-tells_settled : goal.returns-then-stored-store-clause-tells_settled
-returns-then-stored-store-clause-tells_settled c s et es =
-    settle_stored c.args.model c.in-Found.steps c.args.stored c.args.store.now s et es c.in-Found.part c.if-stored-store.true
+pub returns-then-w-store-clause-tells_settled : goal.returns-then-w-store-clause-tells_settled
+returns-then-w-store-clause-tells_settled c s et es =
+    settle_stored c.args.model c.in-Found.steps c.args.w.stored c.args.store.now s et es c.in-Found.part c.if-w-store.true
     ∙ ap (λ (r : Tried). settle (length c.args.store.now) c.args.model s (told r)) (sym c.in-Found.is)
 
-pub returns-else-stored-store-clause-tells_settled : goal.returns-else-stored-store-clause-tells_settled
-returns-else-stored-store-clause-tells_settled c s et es =
-    settle_full c.args.model c.in-Found.steps c.args.stored c.args.store.now s et es c.in-Found.part c.if-stored-store.false c.requires.1
+pub returns-else-w-store-clause-tells_settled : goal.returns-else-w-store-clause-tells_settled
+returns-else-w-store-clause-tells_settled c s et es =
+    settle_full c.args.model c.in-Found.steps c.args.w.stored c.args.store.now s et es c.in-Found.part c.if-w-store.false c.requires.1
     ∙ ap (λ (r : Tried). settle (length c.args.store.now) c.args.model s (told r)) (sym c.in-Found.is)

@@ -4,8 +4,9 @@ use mathlib.Core.List.Memᴰ.{not-nil}
 use Rattle.prepare.specs.Carried.{sets_of}
 use Rattle.search.specs.Grown.{game}
 use Rattle.search.specs.Search.{start, search as searched}
-use Rattle.sheet.specs.Literals.{Lit, literal}
-use Rattle.walk.proofs.Judging.{root_is, question_placed}
+use Rattle.sheet.specs.Enums.{lit}
+use Rattle.sheet.specs.Literals.{Lit}
+use Rattle.walk.proofs.Judging.{none_is, root_is, question_placed}
 use Rattle.walk.proofs.candidates.walk_all.Goals as goal
 use Rattle.walk.specs.Carried.{candidates_below}
 
@@ -13,13 +14,14 @@ pub returns-clause-tells_searched : goal.returns-clause-tells_searched
 unfolding searched game
 returns-clause-tells_searched c x is =
     let a = c.args in
-    let q = literal a.question in
+    let q = lit a.question in
+    let root = none_is c.default-root.ensures.0 c.default-root.ensures.1 ∙ root_is in
     c.roam.ensures.tells_roamed x [] is
     (record {
       clauses = is.clauses;
-      banned = c.with_literal.ensures [] root_is ∙ ap (λ (l : Lit). sets_of (l ∷ [])) c.complement.ensures.1;
-      conditions = question_placed a.question c.requires.question;
-      made = root_is;
+      banned = c.with.ensures [] root ∙ ap (λ (l : Lit). sets_of (l ∷ [])) c.complement.ensures;
+      conditions = question_placed a.question;
+      made = root;
       decided = λ l h. absurd (not-nil h);
     })
     ∙ ap (λ (ls : List Lit). candidates_below x q a.allowance (length a.store.now) ls [] start) is.order
