@@ -77,8 +77,8 @@ extern "C" {
 #define JARVULPE_HEADER_BYTES 32
 #define JARVULPE_LONGEST_SHEET 12384
 
-/* Bytes of stack that are enough for a call, arguments included. Measured on x86-64 by bench/stack.c: 88 bytes for the check of the longest
- * sheet, and 57,424 for the deepest query, 64 atoms with both walks at the bottom, of which 16,512 are the clauses and the branch order. */
+/* Bytes of stack that are enough for a call, arguments included. Measured on x86-64 by bench/stack.c: 56 bytes for the check of the longest
+ * sheet, and 50,176 for the deepest query, 64 atoms with both walks at the bottom, of which 16,512 are the clauses and the branch order. */
 #define JARVULPE_CHECK_STACK 1024
 #define JARVULPE_QUERY_STACK 74752
 

@@ -1,5 +1,5 @@
-// The core for programs in other languages. A slice is passed as a pointer and then a length, an array as a pointer; an answer is a number, since C has no
-// other, and counts go into lent words.
+// The core for programs in other languages: the C interface, so an answer is a number, and counts go into lent words. A slice is passed as a pointer and then a
+// length, an array as a pointer.
 #![tactic(auto)]
 
 ghost use Rattle.std.specs.Prelude.{◌≡◌, length};

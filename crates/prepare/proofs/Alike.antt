@@ -9,12 +9,14 @@ use Rattle.prepare.proofs.order.branch_order.Kinds as branch_kinds
 use Rattle.prepare.proofs.order.branch_order.Reads as branch
 use Rattle.prepare.proofs.prepare.Kinds as prepare_kinds
 use Rattle.prepare.proofs.prepare.Reads as prepare
-use Rattle.prepare.proofs.ready.Ready.laid.Kinds as laid_kinds
-use Rattle.prepare.proofs.ready.Ready.laid.Reads as laid
 use Rattle.prepare.proofs.ready.Ready.network.Kinds as network_kinds
 use Rattle.prepare.proofs.ready.Ready.network.Reads as network
 use Rattle.prepare.proofs.ready.Ready.objectives.Kinds as objectives_kinds
 use Rattle.prepare.proofs.ready.Ready.objectives.Reads as objectives
+use Rattle.prepare.proofs.space.Space.new.Kinds as new_kinds
+use Rattle.prepare.proofs.space.Space.new.Reads as new_space
+use Rattle.prepare.proofs.space.Space.ready.Kinds as ready_kinds
+use Rattle.prepare.proofs.space.Space.ready.Reads as ready
 use Rattle.prepare.specs.declared.clauses.Literals.{Literals}
 use Rattle.sheet.proofs.Answered.{numbered_once}
 use Rattle.words.proofs.Steady.{Determines}
@@ -26,7 +28,7 @@ pub branch_order_alike : Determines branch_kinds.ps branch_kinds.r branch.Pre br
 branch_order_alike κs a good pre x y v w p q = (refl, λ i. (tt, ((p ∙ sym q) i, tt)))
 
 pub prepare_alike : Determines prepare_kinds.ps prepare_kinds.r prepare.Pre prepare.Post (λ κs x. x)
-prepare_alike κs a good pre x y v w p q = (numbered_once x y (p.0 ∙ sym q.0), λ i. (tt, ((p.1.0 ∙ sym q.1.0) i, ((p.1.1 ∙ sym q.1.1) i, tt))))
+prepare_alike κs a good pre x y v w p q = (numbered_once x y (p.0 ∙ sym q.0), λ i. (tt, (record { clauses = (p.1.0 ∙ sym q.1.0) i; order = (p.1.1 ∙ sym q.1.1) i }, tt)))
 
 -- the set that is given stands for some literals
 pub with_alike : Determines with_kinds.ps with_kinds.r with.Pre with.Post (λ κs x. x)
@@ -34,12 +36,18 @@ with_alike κs a good pre x y v w p q = let u = standing a.0 (fitting a.0 good.0
 
 -- ---- of what a walk reads, the bytes and the clauses
 
-pub laid_alike : Determines laid_kinds.ps laid_kinds.r laid.Pre laid.Post (λ κs x. x.bytes.now)
-laid_alike κs a good pre x y v w p q = (p ∙ sym q, refl)
-
 pub objectives_alike : Determines objectives_kinds.ps objectives_kinds.r objectives.Pre objectives.Post (λ κs x. x.bytes.now)
 objectives_alike κs a good pre x y v w p q = (p ∙ sym q, refl)
 
 pub network_alike : Determines network_kinds.ps network_kinds.r network.Pre network.Post {A = List ℕ × (List ℕ × List Literals)} (λ κs x. (x.order.bytes.now, (x.objectives.bytes.now, x.clauses.now)))
 network_alike κs a good pre x y v w p q =
+    (λ i. ((p.0 ∙ sym q.0) i, ((p.1.0 ∙ sym q.1.0) i, (p.1.1 ∙ sym q.1.1) i)), refl)
+
+-- ---- the room of the tables
+
+pub new_alike : Determines new_kinds.ps new_kinds.r new_space.Pre new_space.Post (λ κs x. x)
+new_alike κs a good pre x y v w p q = (λ i. record { clauses = (p.0 ∙ sym q.0) i; order = (p.1 ∙ sym q.1) i }, refl)
+
+pub ready_alike : Determines ready_kinds.ps ready_kinds.r ready.Pre ready.Post {A = List ℕ × (List ℕ × List Literals)} (λ κs x. (x.sheet.bytes.now, (x.order.now, x.clauses.now)))
+ready_alike κs a good pre x y v w p q =
     (λ i. ((p.0 ∙ sym q.0) i, ((p.1.0 ∙ sym q.1.0) i, (p.1.1 ∙ sym q.1.1) i)), refl)

@@ -1,10 +1,6 @@
 -- The branch order in its buffer: one literal more, and the whole of it. Assumes nothing.
-use Rattle.std.proofs.Common.{ℕ, suc, ◌+◌, ◌-◌, ◌≤◌, ◌<◌, true, false, ◌||◌, List, [], ◌∷◌, ◌++◌, map, ◌≡◌, refl, sym, ap, ◌∙◌, subst, arith, length, drop, take, eq-eqb, eqb, add-one}
-use Rattle.std.proofs.Math.ListN.{set, length-map, length-append, length-drop}
-use Rattle.std.proofs.Math.Seq.{take-suc}
-use mathlib.Core.List.{map-append}
-use mathlib.Core.Path.{ap₂}
-use borrow.Author.Tests.{eqb-true}
+use Rattle.std.proofs.Common.{ℕ, suc, ◌+◌, ◌-◌, ◌≤◌, ◌<◌, true, false, ◌||◌, List, [], ◌∷◌, ◌++◌, map, ◌≡◌, refl, sym, ap, ◌∙◌, subst, arith, length, drop, take, eq-eqb, eqb, add-one, ap₂, eqb-true, set, length-append, length-drop, take-suc}
+use Rattle.std.proofs.lemmas.List.{length-map, map-append}
 use Rattle.prepare.specs.Carried.{Ordered}
 use Rattle.prepare.specs.declared.order.Order.{Order}
 use Rattle.sheet.proofs.BranchLaws.{taking_old, taking_new, names_taking, taking_append}

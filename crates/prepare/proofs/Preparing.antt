@@ -1,7 +1,6 @@
 -- The tables of an accepted sheet are what a walk reads. Assumes nothing.
-use Rattle.std.proofs.Common.{ℕ, List, map, ◌≡◌, ◌≤◌, true, sym, ap, ◌∙◌, arith, length, take}
-use Rattle.std.proofs.Math.ListN.{length-map}
-use Rattle.std.proofs.Math.Seq.{take_at}
+use Rattle.std.proofs.Common.{ℕ, List, map, ◌≡◌, ◌≤◌, true, sym, ap, ◌∙◌, arith, length, take, take_at}
+use Rattle.std.proofs.lemmas.List.{length-map}
 use mathlib.Core.List.{Memᴰ as Mem}
 use mathlib.Core.List.Memᴰ.{of_map}
 use Rattle.prepare.specs.Carried.{sets_of, Placed, Prepared, Tables, clause_table, order_table}
@@ -45,12 +44,6 @@ few_objectives s ok = let p = (passed s ok).sized in omega (arith, objective_byt
 -- ---- what its tables are to a walk
 
 module _ {s order : List ℕ} {sets : List Literals} (t : Tables s order sets) where
-  pub order_counted : length order ≡ atom_count s
-  order_counted = ap length t.order ∙ branch_counted s t.accepted
-
-  pub sets_counted : length sets ≡ clause_count s
-  sets_counted = ap length t.clauses ∙ as_clauses s
-
   pub order_literals : all (is_literal 64) order ≡ true
   order_literals =
       ap (all (is_literal 64)) t.order ∙ all_in (is_literal 64) (map byte_of (branch (sheet_of s))) (branch_literal s t.accepted)

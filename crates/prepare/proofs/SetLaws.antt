@@ -1,9 +1,7 @@
 -- The two sets of atoms of each clause: one literal more, and a list that is filled with them. Assumes nothing.
-use Rattle.std.proofs.Common.{ℕ, true, false, ◌+◌, ◌-◌, ◌≤◌, ◌<◌, subst, subst₂, arith, take, drop, List, [], ◌∷◌, ◌++◌, map, ◌≡◌, refl, sym, ap, ◌∙◌, length}
-use Rattle.std.proofs.Math.ListN.{set, length-map}
-use Rattle.std.proofs.lemmas.List.{take-take, drop-drop, drop-take}
-use mathlib.Core.Bool.{false≢true}
-use mathlib.Core.List.{map-append}
+use Rattle.std.proofs.Common.{ℕ, true, false, ◌+◌, ◌-◌, ◌≤◌, ◌<◌, subst, subst₂, arith, take, drop, List, [], ◌∷◌, ◌++◌, map, ◌≡◌, refl, sym, ap, ◌∙◌, length, set, length-take-le, drop_of_length-le}
+use Rattle.std.proofs.lemmas.List.{append-nil, length-map, take-take, drop-drop, drop-take, map-append}
+use Rattle.std.proofs.lemmas.Bool.{false≢true}
 use Rattle.prepare.specs.Carried.{negated, sets_of}
 use Rattle.prepare.specs.declared.clauses.Literals.{Literals}
 use Rattle.sheet.proofs.ClauseLaws.{clause_rises, clause_ends_within, clause_literals}
@@ -19,6 +17,11 @@ use Rattle.words.specs.Positions.{adding, set_of}
 
 abbrev sets : ℕ → ℕ → Literals
 sets p q = record { plains = p; negated = q }
+
+-- two words that are nothing have no literal
+pub no_literals : {c : Literals} → c.plains ≡ 0 → c.negated ≡ 0 → c ≡ sets_of []
+unfolding plains negated set_of
+no_literals e f = λ i. sets (e i) (f i)
 
 module _ (ls : List Lit) {c : Literals} {r : ℕ} (e : c ≡ sets_of ls) where
   pub with_plain : (l : Lit) → plain l ≡ true → r ≡ adding c.plains (place l) → sets r c.negated ≡ sets_of (l ∷ ls)
@@ -52,6 +55,12 @@ module _ (s : List ℕ) where
       put_over (first_sets i) d i v v (length_sets i) h
       ∙ ap (λ (x : Literals). over (first_sets i ++ (x ∷ [])) d) e
       ∙ ap (λ (l : List Literals). over l d) (sym (ap (map sets_of) (map_below_next (literals_of s) i) ∙ map-append sets_of (map (literals_of s) (below i)) (literals_of s i ∷ [])))
+
+-- a part of a list that is filled is its first places
+pub filled_part : {A : Type 0} (xs d : List A) {items : List A} {m : ℕ} → length xs ≡ m → m ≤ length d → items ≡ over xs (take m d) → items ++ drop m d ≡ over xs d
+filled_part xs d {m = m} e within f =
+    let none = drop_of_length-le (take m d) (omega (arith, length-take-le m d within, e)) in
+    (λ i. f i ++ drop m d) ∙ ap (λ l. (xs ++ l) ++ drop m d) none ∙ ap (λ l. l ++ drop m d) (append-nil xs) ∙ (λ i. xs ++ drop (sym e i) d)
 
 -- ---- the bytes of a clause among those of all clauses
 

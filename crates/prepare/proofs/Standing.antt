@@ -1,13 +1,10 @@
 -- What words stand for: every 64-bit word is the set of its positions, so two words are the sets of some literals of the atoms 1 to 64, and a
 -- list of such pairs those of some clauses. So a contract that speaks of whatever its words stand for does speak of something. Assumes nothing.
-use Rattle.std.proofs.Common.{ℕ, suc, ◌-◌, ◌^◌, ◌<◌, true, List, [], ◌∷◌, ◌++◌, map, ◌≡◌, refl, sym, ap, ◌∙◌, subst, arith, eqb, eq-eqb}
-use mathlib.Core.Bool.{false≢true}
+use Rattle.std.proofs.Common.{ℕ, suc, ◌-◌, ◌^◌, ◌<◌, true, List, [], ◌∷◌, ◌++◌, map, ◌≡◌, refl, sym, ap, ◌∙◌, subst, arith, eqb, eq-eqb, ⊎_elim, ap₂, eqb-true}
+use Rattle.std.proofs.lemmas.Bool.{false≢true}
 use mathlib.Core.List.{Memᴰ as Mem}
 use mathlib.Core.List.Memᴰ.{append_cases, cases_cons, head, not-nil, of_map, tail}
-use mathlib.Core.Logic.{⊎_elim}
-use mathlib.Core.Path.{ap₂}
-use native.Mathlib.Decide.{dec_lt}
-use borrow.Author.Tests.{eqb-true}
+use Rattle.std.proofs.Math.Decide.{dec_lt}
 use denote.Laws.{Is}
 use denote.Struct.Laws.{val}
 use Rattle.prepare.proofs.clauses.Literals.TheLaws.{the_laws}

@@ -1,7 +1,7 @@
 -- How the code carries a sheet to a walk: literals and clauses as two sets of atoms, the branch order as bytes. No promise to an outside caller
 -- rests on this file; it links the code's own functions.
-use Rattle.std.specs.Prelude.{ℕ, ◌-◌, ◌≤◌, not, ◌≡◌, length}
-use mathlib.Core.List.{List, map, Memᴰ as Mem}
+use Rattle.std.specs.Prelude.{ℕ, ◌-◌, ◌≤◌, not, ◌≡◌, length, List, map}
+use mathlib.Core.List.{Memᴰ as Mem}
 use Rattle.prepare.specs.declared.clauses.Literals.{Literals}
 use Rattle.prepare.specs.declared.network.Network.{Network}
 use Rattle.prepare.specs.declared.order.Order.{Order}
@@ -18,6 +18,10 @@ negated ls = set_of (map place (pick (λ l. not (plain l)) ls))
 -- some literals as the two sets of their atoms
 abbrev pub sets_of : List Lit → Literals
 sets_of ls = record { plains = plains ls; negated = negated ls }
+
+-- the sets of no literal
+abbrev pub empty_sets : Literals
+empty_sets = record { plains = 0; negated = 0 }
 
 -- the order so far stands in the buffer in front of what was there before, and its atoms are those of the set
 pub record Ordered (so : List Lit) (before : List ℕ) (o : Order) : Type 0 where

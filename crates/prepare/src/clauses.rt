@@ -25,12 +25,12 @@ impl Literals {
         if l.plain {
             Literals {
                 plains: words::adding(self.plains, l.place()),
-                negated: self.negated,
+                ..self
             }
         } else {
             Literals {
-                plains: self.plains,
                 negated: words::adding(self.negated, l.place()),
+                ..self
             }
         }
     }
@@ -41,13 +41,13 @@ fn clause_of(bytes: LiteralBytes) -> Literals
     ensures { result ≡ sets_of (map literal bytes.entry.bytes.now) }
 {
     let mut clause = Literals::default();
-    for i in (0..bytes.len()).rev() {
-        clause = clause.with(bytes.at(i));
+    for &b in bytes.bytes.iter().rev() {
+        clause = clause.with(Literal::of(b));
     }
     clause
 }
 
-/// The two sets of each clause, into the first places of the lent words.
+/// The two sets of each clause, into the first places of the lent pairs.
 pub fn clauses_into(sheet: Laid, clauses: &mut [Literals])
     requires accepted { Accepted sheet.bytes.now }
     requires room { clause_count sheet.bytes.now ≤ length clauses.old }
@@ -55,10 +55,10 @@ pub fn clauses_into(sheet: Laid, clauses: &mut [Literals])
 {
     let literals = sheet.literals();
     let mut start = 0;
-    for i in 0..sheet.clauses() {
+    for (i, clause) in clauses[..sheet.clauses()].iter_mut().enumerate() {
         let end = sheet.clause_end(i);
         let bytes = &literals[start..end];
-        clauses[i] = clause_of(LiteralBytes { bytes });
+        *clause = clause_of(LiteralBytes { bytes });
         start = end;
     }
 }

@@ -2,6 +2,7 @@
 ghost use Rattle.std.specs.Prelude.{◌≡◌, [], ◌∷◌, map, ◌+◌, ◌≤◌, ◌<◌, length};
 ghost use Rattle.words.specs.Lists.{over};
 ghost use Rattle.sheet.specs.Enums.{lit};
+ghost use Rattle.sheet.specs.Layout.{atom_count};
 ghost use Rattle.sheet.specs.Literals.{pos, literal, byte_of};
 ghost use Rattle.sheet.specs.Reading.{sheet_of, Accepted};
 ghost use Rattle.sheet.specs.Order.{branch, up_to};
@@ -39,17 +40,17 @@ impl Order<'_> {
         ensures grown { Grown (map literal literals.entry.bytes.now) self.old self.new }
         ensures room { self.new.count ≤ self.old.count + length literals.entry.bytes.now }
     {
-        for i in 0..literals.len() {
-            self.take(literals.at(i));
+        for &b in literals.bytes {
+            self.take(Literal::of(b));
         }
     }
 
-    /// Goes on with the atoms 1 to n.
-    fn take_atoms(&mut self, n: u8)
-        requires { (n ≤ 64) × (self.old.count + n ≤ length self.old.bytes.now) }
-        ensures { Grown (map pos (up_to n)) self.old self.new }
+    /// Goes on with the atoms of the sheet.
+    fn take_atoms(&mut self, sheet: Laid)
+        requires { self.old.count + atom_count sheet.bytes.now ≤ length self.old.bytes.now }
+        ensures { Grown (map pos (up_to (atom_count sheet.entry.bytes.now))) self.old self.new }
     {
-        for atom in 1..=n {
+        for atom in 1..=sheet.atoms() {
             self.take(Literal { plain: true, atom });
         }
     }
@@ -68,5 +69,5 @@ pub fn branch_order(sheet: Laid, order: &mut [u8])
         atoms: 0,
     };
     begun.take_all(LiteralBytes { bytes });
-    begun.take_atoms(sheet.atoms());
+    begun.take_atoms(sheet);
 }

@@ -11,33 +11,26 @@ use sheet::literal::LiteralBytes;
 /// An accepted sheet with its branch order and its clauses.
 #[derive(Clone, Copy, Debug)]
 pub struct Ready<'a> {
-    pub sheet: &'a [u8],
+    pub sheet: Laid<'a>,
     pub order: &'a [u8],
     pub clauses: &'a [Literals],
-    pub ghost tables: { Tables sheet.now order.now clauses.now },
+    pub ghost tables: { Tables sheet.bytes.now order.now clauses.now },
 }
 
 impl<'a> Ready<'a> {
-    /// The sheet, to be read by its parts.
-    pub fn laid(self) -> Laid<'a>
-        ensures { result.bytes.now ≡ self.entry.sheet.now }
-    {
-        Laid { bytes: self.sheet }
-    }
-
     /// The literals of its objectives.
     pub fn objectives(self) -> LiteralBytes<'a>
-        ensures { result.bytes.now ≡ objective_bytes self.entry.sheet.now }
+        ensures { result.bytes.now ≡ objective_bytes self.entry.sheet.bytes.now }
     {
         LiteralBytes {
-            bytes: self.laid().objectives(),
+            bytes: self.sheet.objectives(),
         }
     }
 
     /// What a walk of the sheet reads.
     pub fn network(self) -> Network<'a>
         ensures order { result.order.bytes.now ≡ self.entry.order.now }
-        ensures objectives { result.objectives.bytes.now ≡ objective_bytes self.entry.sheet.now }
+        ensures objectives { result.objectives.bytes.now ≡ objective_bytes self.entry.sheet.bytes.now }
         ensures clauses { result.clauses.now ≡ self.entry.clauses.now }
     {
         Network {

@@ -11,8 +11,8 @@ use Rattle.query.proofs.reply.U8FromRefusal.from.Kinds as refusal_kinds
 use Rattle.query.proofs.reply.U8FromRefusal.from.Reads as refusal
 use Rattle.query.proofs.reply.U8FromVerdict.from.Kinds as told_kinds
 use Rattle.query.proofs.reply.U8FromVerdict.from.Reads as told
-use Rattle.query.proofs.reply.VerdictFromEnding.from.Kinds as verdict_kinds
-use Rattle.query.proofs.reply.VerdictFromEnding.from.Reads as verdict
+use Rattle.query.proofs.reply.VerdictFromOptionEnding.from.Kinds as verdict_kinds
+use Rattle.query.proofs.reply.VerdictFromOptionEnding.from.Reads as verdict
 use Rattle.words.proofs.Steady.{Determines}
 
 pub query_alike : Determines query_kinds.ps query_kinds.r query.Pre query.Post (λ κs x. x)

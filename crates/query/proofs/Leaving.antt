@@ -1,12 +1,12 @@
 -- What a walk leaves: the witness byte by byte, and the whole result. Assumes nothing.
-use Rattle.std.proofs.Common.{ℕ, suc, ◌+◌, ◌-◌, ◌≤◌, ◌<◌, Bool, true, false, cond, List, [], ◌∷◌, ◌++◌, append-nil, ◌≡◌, refl, sym, ap, ◌∙◌, arith, length, take, drop, set, take-append-drop, length-take-le, drop_of_length-le}
-use Rattle.std.proofs.Math.ListN.{length-map}
+use Rattle.std.proofs.Common.{ℕ, suc, ◌+◌, ◌-◌, ◌≤◌, ◌<◌, Bool, true, false, cond, List, [], ◌∷◌, ◌++◌, append-nil, ◌≡◌, refl, sym, ap, ◌∙◌, arith, length, take, drop, set, take-append-drop, length-take-le, drop_of_length-le, Option, Some, None}
+use Rattle.std.proofs.lemmas.List.{length-map}
 use mir.Val.{bool_byte}
 use Rattle.query.specs.Query.{Numbers, outcome, reply_of, values_of, witnessed, after_walk}
 use Rattle.search.specs.Models.{value}
 use Rattle.search.specs.Search.{State, Answer, Yes, No, Cut, NoPlace, answered, code_of, ended}
 use Rattle.walk.specs.Carried.{answer_of, state_of, ended_as, run_of, Onward}
-use Rattle.walk.specs.declared.candidates.Ending.TheVariants.{Going, Affirmed, Exhausted, Full}
+use Rattle.walk.specs.declared.candidates.Ending.TheVariants.{Affirmed, Exhausted, Full}
 use Rattle.walk.specs.declared.candidates.Ending.{Ending}
 use Rattle.walk.specs.declared.candidates.Walked.{Walked}
 use Rattle.words.proofs.Lists.{length_below, put_over, map_below_next}
@@ -62,11 +62,11 @@ witnessed_first NoPlace before n h = take-append-drop n before
 
 -- ---- what a walk leaves
 
-ends_as : (e : Ending) (s : State) → (answer_of e ≡ answered (ended_as e s)) × (s ≡ ended (ended_as e s))
-ends_as Going s = (refl, refl)
-ends_as (Affirmed m) s = (refl, refl)
-ends_as Exhausted s = (refl, refl)
-ends_as Full s = (refl, refl)
+ends_as : (e : Option Ending) (s : State) → (answer_of e ≡ answered (ended_as e s)) × (s ≡ ended (ended_as e s))
+ends_as None s = (refl, refl)
+ends_as (Some (Affirmed m)) s = (refl, refl)
+ends_as (Some Exhausted) s = (refl, refl)
+ends_as (Some Full) s = (refl, refl)
 
 module _ (w : Walked) (n : ℕ) (before after witness : List ℕ) (on : Onward 0 w before after) where
   all_stored : length (take w.stored after) ≡ w.stored

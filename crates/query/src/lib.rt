@@ -8,9 +8,9 @@ ghost use Rattle.query.specs.Query.{checked, reply_of, outcome, values_of, witne
 ghost use Rattle.query.specs.Numbers.{numbers_of};
 ghost use Rattle.query.specs.Promise.{Right, Bounded};
 
-use prepare::clauses::Literals;
 use prepare::prepare;
 use prepare::ready::Ready;
+use prepare::space::Space;
 use reply::{Refusal, Reply};
 use sheet::literal::Literal;
 use walk::candidates::{Ending, Walked, walk_all};
@@ -33,7 +33,7 @@ fn finish(w: Walked, witness: &mut [u8]) -> Reply
     ensures reply { numbers_of (Ok result) ≡ reply_of (code_of (answer_of w.ending)) w.steps w.tests w.stored }
     ensures witness { witness.new ≡ witnessed (answer_of w.ending) (length witness.old) witness.old }
 {
-    if let Ending::Affirmed(model) = w.ending {
+    if let Some(Ending::Affirmed(model)) = w.ending {
         write_values(model, witness);
     }
     Reply {
@@ -52,11 +52,11 @@ pub fn ask(
     store: &mut [u64],
     witness: &mut [u8],
 ) -> Result<Reply, Refusal>
-    ensures defined { outcome (numbers_of result) store.new witness.new ≡ query_of ready.entry.sheet.now question allowance store.old witness.old }
-    ensures right { Right (checked ready.entry.sheet.now question (length witness.old)) question allowance (length store.old) (numbers_of result) witness.old witness.new }
-    ensures bounded { Bounded (checked ready.entry.sheet.now question (length witness.old)) question (length store.old) (numbers_of result) }
+    ensures defined { outcome (numbers_of result) store.new witness.new ≡ query_of ready.entry.sheet.bytes.now question allowance store.old witness.old }
+    ensures right { Right (checked ready.entry.sheet.bytes.now question (length witness.old)) question allowance (length store.old) (numbers_of result) witness.old witness.new }
+    ensures bounded { Bounded (checked ready.entry.sheet.bytes.now question (length witness.old)) question (length store.old) (numbers_of result) }
 {
-    let n = ready.laid().atoms();
+    let n = ready.sheet.atoms();
     let asked = Literal::read(question, n).ok_or(Refusal::NoLiteral)?;
     let atoms = usize::from(n);
     if witness.len() < atoms {
@@ -67,6 +67,7 @@ pub fn ask(
 }
 
 /// A query: for every sheet, question, allowance, store and witness buffer. The first check that applies answers.
+// What is lent for a question comes one by one, as C lends it and as the document lists it.
 pub fn query(
     sheet: &[u8],
     question: u8,
@@ -78,13 +79,8 @@ pub fn query(
     ensures right { Right (checked sheet.now question (length witness.old)) question allowance (length store.old) (numbers_of result) witness.old witness.new }
     ensures bounded { Bounded (checked sheet.now question (length witness.old)) question (length store.old) (numbers_of result) }
 {
-    let mut clauses = [Literals::default(); 1024];
-    let mut order = [0u8; 128];
-    let sizes = prepare(sheet, &mut clauses, &mut order)?;
-    let ready = Ready {
-        sheet,
-        order: &order[..usize::from(sizes.atoms)],
-        clauses: &clauses[..sizes.clauses],
-    };
+    let mut space = Space::new();
+    let sizes = prepare(sheet, &mut space)?;
+    let ready = space.ready(sheet, sizes);
     ask(ready, question, allowance, store, witness)
 }

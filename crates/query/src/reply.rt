@@ -47,17 +47,17 @@ pub enum Verdict {
     OutOfPlaces = 19,
 }
 
-impl From<Ending> for Verdict {
+impl From<Option<Ending>> for Verdict {
     ghost use Rattle.query.specs.Numbers.{verdict_number};
 
     ghost from_gives = { λ ending verdict. verdict_number verdict ≡ code_of (answer_of ending) };
 
-    fn from(ending: Ending) -> Verdict {
+    fn from(ending: Option<Ending>) -> Verdict {
         match ending {
-            Ending::Affirmed(_) => Verdict::Yes,
-            Ending::Going => Verdict::No,
-            Ending::Exhausted => Verdict::OutOfSteps,
-            Ending::Full => Verdict::OutOfPlaces,
+            Some(Ending::Affirmed(_)) => Verdict::Yes,
+            None => Verdict::No,
+            Some(Ending::Exhausted) => Verdict::OutOfSteps,
+            Some(Ending::Full) => Verdict::OutOfPlaces,
         }
     }
 }
@@ -73,6 +73,7 @@ impl From<Verdict> for u8 {
 }
 
 /// What a walk came to, and its counts.
+// The counts are those of `Walked`, which has its own end: a struct for the three of them in both would be one name more at each count.
 #[derive(Clone, Copy, Debug, PartialEq, Eq)]
 pub struct Reply {
     pub verdict: Verdict,

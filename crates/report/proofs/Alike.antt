@@ -14,7 +14,7 @@ heading_alike κs a good pre x y v w p q =
     let clauses = p.1.1.0 ∙ sym q.1.1.0 in
     let order = p.1.1.1.0 ∙ sym q.1.1.1.0 in
     let text = p.0.filled ∙ sym q.0.filled in
-    (λ i. record { length = end i; checked = checked i }, λ i. (tt, (clauses i, (order i, (text i, tt)))))
+    (λ i. record { length = end i; checked = checked i }, λ i. (tt, (record { clauses = clauses i; order = order i }, (text i, tt))))
 
 pub line_alike : Determines line_kinds.ps line_kinds.r line.Pre line.Post (λ κs x. x)
 line_alike κs a good pre x y v w p q = (p.0.ends ∙ sym q.0.ends, λ i. (tt, (tt, ((p.0.filled ∙ sym q.0.filled) i, tt))))

@@ -1,7 +1,7 @@
 -- What a line's yes and no say of the models. Assumes nothing.
-use Rattle.std.proofs.Common.{ℕ, ◌<◌, true, false, not, List, [], ◌∷◌, length, replicate, ◌≡◌, refl, sym, ap, subst, ◌∙◌, lit≤, arith}
+use Rattle.std.proofs.Common.{ℕ, ◌<◌, true, false, not, List, [], ◌∷◌, length, replicate, ◌≡◌, refl, sym, ap, subst, ◌∙◌, lit≤, arith, le-ltb}
 use mathlib.Core.List.{Memᴰ as Mem}
-use borrow.Author.Tests.{not-false, le-ltb}
+use Rattle.std.proofs.lemmas.Bool.{not-false, false_from_ne_true}
 use Rattle.query.proofs.Checking.{accepted_checked}
 use Rattle.query.proofs.Promises.{as_checked}
 use Rattle.query.specs.Promise.{Right}
@@ -17,7 +17,6 @@ use Rattle.sheet.proofs.Understood.{passed}
 use Rattle.sheet.specs.Layout.{atom_count, byte, objective_bytes}
 use Rattle.sheet.specs.Literals.{Lit, atom, complement, literal, between, is_literal, byte_of}
 use Rattle.sheet.specs.Reading.{Reading, understood, sheet_of, Accepted}
-use Rattle.words.proofs.Bools.{refuted}
 use Rattle.words.proofs.Members.{mem_at}
 use Rattle.words.specs.Lists.{over}
 
@@ -73,7 +72,7 @@ module _ (s : List ℕ) (ok : Accepted s) (i : ℕ) (there : i < length (objecti
       let q = literal (byte_of (complement objective)) in
       let none = (demand.denied (λ f. absurd (omega arith), λ f. absurd (omega arith))).0 e in
       not-false (holds m objective)
-      (sym (holds_complement m objective) ∙ sym (ap (holds m) question) ∙ refuted (holds m q) (λ t. none (m, best, t)))
+      (sym (holds_complement m objective) ∙ sym (ap (holds m) question) ∙ false_from_ne_true (holds m q) (λ t. none (m, best, t)))
 
   -- "`yes`, `no`, or 18 or 19": no other code stands in a line
   pub one_of_four : Mem (asked s objective).code (1 ∷ 2 ∷ 18 ∷ 19 ∷ [])

@@ -1,9 +1,7 @@
 -- Answers and lines as texts. Assumes nothing.
-use Rattle.std.proofs.Common.{ℕ, ◌<◌, ◌≤◌, Bool, cond, List, [], ◌∷◌, length, replicate, Result, Ok, Err, ◌≡◌, refl, sym, ap, ◌∙◌, arith}
+use Rattle.std.proofs.Common.{ℕ, ◌<◌, ◌≤◌, Bool, cond, List, [], ◌∷◌, length, replicate, Result, Ok, Err, ◌≡◌, refl, sym, ap, ◌∙◌, arith, lt-ltb, IsOk}
 use mathlib.Core.List.Memᴰ.{head, tail}
 use mathlib.Core.List.{Memᴰ as Mem}
-use Rattle.std.specs.Result.{IsOk}
-use borrow.Author.Tests.{lt-ltb}
 use Rattle.query.specs.Numbers.{refusal_number, verdict_number, numbers_of}
 use Rattle.query.specs.Query.{outcome, query_of}
 use Rattle.query.specs.declared.reply.Refusal.TheVariants.{Sheet, NoLiteral, ShortWitness}

@@ -11,9 +11,9 @@ ghost use Rattle.prepare.specs.Carried.{clause_table, order_table};
 ghost use Rattle.query.specs.Numbers.{numbers_of, verdict_number};
 ghost use Rattle.report.specs.Lines.{field, newline, heading as heading_of, verdict, counts, line as line_of, line_count, line_at};
 
-use prepare::clauses::Literals;
 use prepare::prepare;
 use prepare::ready::Ready;
+use prepare::space::Space;
 use query::ask;
 use query::reply::{Reply, Verdict};
 use sheet::literal::Literal;
@@ -21,6 +21,7 @@ use sheet::{Refusal, Sizes};
 use text::Text;
 
 /// The first line of a sheet: how long it is, and what the check of the sheet answered.
+// The length stands beside the lent bytes here and in `line`, since the promise is of all 128 of them: a part of them would say nothing of the rest.
 #[derive(Clone, Copy, Debug, PartialEq, Eq)]
 pub struct Opening {
     pub length: usize,
@@ -64,9 +65,9 @@ fn put_verdict(answer: Verdict, out: &mut Text)
 
 /// The line of a refused sheet.
 fn put_refusal(refusal: Refusal, out: &mut Text)
-    requires { out.old.end + 128 ≤ length out.old.bytes.now }
+    requires { out.old.end + 29 ≤ length out.old.bytes.now }
     ensures adds { Adds (letters "refused" ++ field (decimal (number_of refusal)) ++ newline) out.old out.new }
-    ensures upper_bound { out.new.end ≤ out.old.end + 128 }
+    ensures upper_bound { out.new.end ≤ out.old.end + 29 }
 {
     out.put(b"refused");
     put_number(u64::from(u8::from(refusal)), out);
@@ -75,9 +76,9 @@ fn put_refusal(refusal: Refusal, out: &mut Text)
 
 /// The first line of an accepted sheet.
 fn put_sizes(sizes: Sizes, out: &mut Text)
-    requires { out.old.end + 128 ≤ length out.old.bytes.now }
+    requires { out.old.end + 69 ≤ length out.old.bytes.now }
     ensures adds { Adds (letters "sheet" ++ field (decimal sizes.atoms) ++ field (decimal sizes.clauses) ++ field (decimal sizes.objectives) ++ newline) out.old out.new }
-    ensures upper_bound { out.new.end ≤ out.old.end + 128 }
+    ensures upper_bound { out.new.end ≤ out.old.end + 69 }
 {
     out.put(b"sheet");
     put_number(u64::from(sizes.atoms), out);
@@ -101,9 +102,9 @@ fn put_counts(reply: Reply, out: &mut Text)
 /// The line of an objective, with what the query of its complement replied.
 #[tactic(auto, using(text::proofs::Decimals::twenty_digits))]
 fn put_line(i: usize, l: Literal, reply: Reply, out: &mut Text)
-    requires { (i < 64) × (out.old.end + 128 ≤ length out.old.bytes.now) }
+    requires { (i < 64) × (out.old.end + 127 ≤ length out.old.bytes.now) }
     ensures adds { Adds (line_of i (lit l) (numbers_of (Ok reply))) out.old out.new }
-    ensures upper_bound { out.new.end ≤ out.old.end + 128 }
+    ensures upper_bound { out.new.end ≤ out.old.end + 127 }
 {
     out.put_decimal(i as u64 + 1);
     put_literal(l, out);
@@ -112,19 +113,14 @@ fn put_line(i: usize, l: Literal, reply: Reply, out: &mut Text)
 }
 
 /// Prepares a sheet and puts its first line, for every byte string.
-pub fn heading(
-    sheet: &[u8],
-    clauses: &mut [Literals; 1024],
-    order: &mut [u8; 128],
-    out: &mut [u8; 128],
-) -> Opening
+pub fn heading(sheet: &[u8], space: &mut Space, out: &mut [u8; 128]) -> Opening
     ensures text { Puts (heading_of (read sheet.now)) 0 out.old out.new result.length }
     ensures checked { numbered result.checked ≡ check_of (read sheet.now) }
-    ensures clauses { clauses.new ≡ clause_table (read sheet.now) clauses.old }
-    ensures order { order.new ≡ order_table (read sheet.now) order.old }
+    ensures clauses { space.new.clauses ≡ clause_table (read sheet.now) space.old.clauses }
+    ensures order { space.new.order ≡ order_table (read sheet.now) space.old.order }
     ensures fits { result.length ≤ length out.new }
 {
-    let checked = prepare(sheet, clauses, order);
+    let checked = prepare(sheet, space);
     let mut text = Text { bytes: out, end: 0 };
     match checked {
         Ok(sizes) => put_sizes(sizes, &mut text),
@@ -138,8 +134,8 @@ pub fn heading(
 
 /// Puts the line of the objective at position i of a sheet whose tables are ready, and answers how long it is.
 pub fn line(ready: Ready, i: usize, out: &mut [u8; 128]) -> usize
-    requires { i < line_count (read ready.sheet.now) }
-    ensures text { Puts (line_at ready.entry.sheet.now i) 0 out.old out.new result }
+    requires { i < line_count (read ready.sheet.bytes.now) }
+    ensures text { Puts (line_at ready.entry.sheet.bytes.now i) 0 out.old out.new result }
     ensures fits { result ≤ length out.new }
 {
     let objective = ready.objectives().at(i);

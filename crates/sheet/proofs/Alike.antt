@@ -22,14 +22,14 @@ use Rattle.sheet.proofs.literal.Literal.byte.Kinds as byte_kinds
 use Rattle.sheet.proofs.literal.Literal.byte.Reads as byte
 use Rattle.sheet.proofs.literal.Literal.complement.Kinds as complement_kinds
 use Rattle.sheet.proofs.literal.Literal.complement.Reads as complement
+use Rattle.sheet.proofs.literal.Literal.of.Kinds as of_kinds
+use Rattle.sheet.proofs.literal.Literal.of.Reads as of
 use Rattle.sheet.proofs.literal.Literal.place.Kinds as place_kinds
 use Rattle.sheet.proofs.literal.Literal.place.Reads as place
 use Rattle.sheet.proofs.literal.Literal.read.Kinds as read_kinds
 use Rattle.sheet.proofs.literal.Literal.read.Reads as read
 use Rattle.sheet.proofs.literal.LiteralBytes.at.Kinds as at_kinds
 use Rattle.sheet.proofs.literal.LiteralBytes.at.Reads as at
-use Rattle.sheet.proofs.literal.LiteralBytes.len.Kinds as len_kinds
-use Rattle.sheet.proofs.literal.LiteralBytes.len.Reads as len
 use Rattle.sheet.proofs.literal.is_literal.Kinds as is_literal_kinds
 use Rattle.sheet.proofs.literal.is_literal.Reads as is_literal
 use Rattle.words.proofs.Steady.{Determines}
@@ -78,8 +78,8 @@ byte_alike κs a good pre x y v w p q = (p ∙ sym q, refl)
 pub is_literal_alike : Determines is_literal_kinds.ps is_literal_kinds.r is_literal.Pre is_literal.Post (λ κs x. x)
 is_literal_alike κs a good pre x y v w p q = (p ∙ sym q, refl)
 
-pub len_alike : Determines len_kinds.ps len_kinds.r len.Pre len.Post (λ κs x. x)
-len_alike κs a good pre x y v w p q = (p ∙ sym q, refl)
+pub of_alike : Determines of_kinds.ps of_kinds.r of.Pre of.Post (λ κs x. x)
+of_alike κs a good pre x y v w p q = (lit_once (p ∙ sym q), refl)
 
 pub at_alike : Determines at_kinds.ps at_kinds.r at.Pre at.Post (λ κs x. x)
 at_alike κs a good pre x y v w p q = (lit_once (p ∙ sym q), refl)

@@ -1,5 +1,5 @@
 -- What an answer of the check says of the sheet. Assumes nothing.
-use Rattle.std.proofs.Common.{ℕ, List, ◌≡◌, refl, sym, ap, ◌∙◌, length, Ok, Err, cond, eqb, Result, arith}
+use Rattle.std.proofs.Common.{ℕ, ◌≤◌, List, ◌≡◌, refl, sym, ap, ◌∙◌, length, Ok, Err, cond, eqb, Result, arith}
 use Rattle.sheet.proofs.ExactlyOne.{understood_accepted}
 use Rattle.sheet.proofs.Understood.{passed, atoms_are, clauses_counted, objectives_counted}
 use Rattle.sheet.specs.Enums.{number_of, numbered, check_of}
@@ -37,6 +37,15 @@ answered_accepted s {sizes} e = go (read s) refl e
           clauses = (let t : sizes.clauses ≡ length (sheet_of s).clauses = cc in t) ∙ clauses_counted s;
           objectives = (let t : sizes.objectives ≡ length (sheet_of s).objectives = cc in t) ∙ objectives_counted s (passed s ok).sized;
         }
+
+-- the same of what the code's check has answered
+pub checked_sizes : (s : List ℕ) {answer : Result Sizes Refusal} {sizes : Sizes} → numbered answer ≡ check_of (read s) → answer ≡ Ok sizes → Sized s sizes
+checked_sizes s checked is = answered_accepted s (sym (ap numbered is) ∙ checked)
+
+pub sizes_small : {s : List ℕ} {sizes : Sizes} → Sized s sizes → (sizes.atoms ≤ 64) × (sizes.clauses ≤ 1024) × (sizes.objectives ≤ 64)
+sizes_small {s} z =
+    let p = (passed s z.accepted).sized.counted in
+    (omega (arith, z.atoms, p.atoms), omega (arith, z.clauses, p.clauses), omega (arith, z.objectives, p.objectives))
 
 -- ---- the numbers tell the refusals apart
 

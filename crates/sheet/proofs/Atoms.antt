@@ -1,14 +1,8 @@
 -- The literals of an accepted sheet are of the atoms that are given values. Assumes nothing.
-use Prim.Native.Nat.{ℕ, suc, ◌-◌, ◌≤◌}
-use mathlib.Core.Bool.{true}
-use mathlib.Core.List.Memᴰ.{cast}
-use mathlib.Core.List.Memᴰ.{map as mem_map}
-use mathlib.Core.List.Memᴰ.{of_map}
-use mathlib.Core.List.{List, [], ◌∷◌, map, Memᴰ as Mem}
-use mathlib.Core.Path.{◌≡◌, sym, ◌∙◌, subst}
-use native.Mathlib.Omega.{arith}
-use borrow.Author.Tests.{not-false}
-use lib.ListN.{length}
+use Rattle.std.proofs.Common.{ℕ, suc, ◌-◌, ◌≤◌, true, List, [], ◌∷◌, map, ◌≡◌, sym, ◌∙◌, subst, arith, length}
+use mathlib.Core.List.Memᴰ.{cast, map as mem_map, of_map}
+use mathlib.Core.List.{Memᴰ as Mem}
+use Rattle.std.proofs.lemmas.Bool.{not-false, or_parts}
 use Rattle.sheet.proofs.ClauseLaws.{clause_byte}
 use Rattle.sheet.proofs.Literals.{between_says, literal_atom, literal_small, more_atoms}
 use Rattle.sheet.proofs.Understood.{passed}
@@ -16,7 +10,6 @@ use Rattle.sheet.specs.Layout.{byte, atom_count, clause_count, clause_bytes, obj
 use Rattle.sheet.specs.Literals.{Lit, atom, literal, is_literal}
 use Rattle.sheet.specs.Order.{up_to, valued}
 use Rattle.sheet.specs.Reading.{sheet_of, no_literal, bad_at, bad_objective, Accepted}
-use Rattle.words.proofs.Bools.{or_split}
 use Rattle.words.proofs.Members.{any_none, all_in, at_mem, in_below, below_in, distinct_below}
 use Rattle.words.specs.Lists.{all, below, Distinct}
 
@@ -63,7 +56,7 @@ module _ (s : List ℕ) (ok : Accepted s) where
       let os = objective_bytes s in
       let u = at_mem 0 os b m in
       let bad = any_none (bad_at (atom_count s) os) (below (length os)) (passed s ok).objectives_right u.0 (in_below (length os) u.0 u.1) in
-      subst (λ (c : ℕ). is_literal (atom_count s) c ≡ true) u.2 (not-false _ (or_split (no_literal (atom_count s) (byte os u.0)) _ bad).0)
+      subst (λ (c : ℕ). is_literal (atom_count s) c ≡ true) u.2 (not-false _ (or_parts (no_literal (atom_count s) (byte os u.0)) _ bad).0)
 
   pub objectives_literals : all (is_literal 64) (objective_bytes s) ≡ true
   objectives_literals =

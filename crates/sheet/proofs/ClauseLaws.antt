@@ -1,20 +1,13 @@
 -- The clauses of an accepted sheet: where they stand, and that their bytes are literals. Assumes nothing.
-use Prim.Native.Nat.{ℕ, zero, suc, ◌+◌, ◌-◌, ◌≤◌, ◌<◌}
-use mathlib.Core.Bool.{true}
+use Rattle.std.proofs.Common.{ℕ, zero, suc, ◌+◌, ◌-◌, ◌≤◌, ◌<◌, true, List, ◌≡◌, sym, ap, ◌∙◌, subst, le_trans, le_of_eq, arith, length, get_or, drop, get_or-take, get_or-drop, ltb-false, eqb-true}
 use mathlib.Core.List.Memᴰ.{cast}
-use mathlib.Core.List.{List, Memᴰ as Mem}
-use mathlib.Core.Path.{◌≡◌, sym, ap, ◌∙◌, subst}
-use native.Mathlib.Nat.{le_trans, le_of_eq}
-use native.Mathlib.Omega.{arith}
-use lib.ListN.{length, get_or, drop}
-use lib.Seq.{get_or-take, get_or-drop}
-use borrow.Author.Tests.{ltb-false, eqb-true, not-false}
+use mathlib.Core.List.{Memᴰ as Mem}
+use Rattle.std.proofs.lemmas.Bool.{not-false, or_parts}
 use Rattle.sheet.proofs.Literals.{more_atoms}
 use Rattle.sheet.proofs.Understood.{length_span, passed}
 use Rattle.sheet.specs.Layout.{atom_count, clause_count, literal_count, literals_at, objectives_at, clause_start, clause_end, clause_bytes, literal_bytes, span}
 use Rattle.sheet.specs.Literals.{is_literal}
 use Rattle.sheet.specs.Reading.{falls, no_literal, bad_ends, bad_literal, Accepted}
-use Rattle.words.proofs.Bools.{or_split}
 use Rattle.words.proofs.Members.{any_none, all_in, mem_at, at_mem, in_below}
 use Rattle.words.specs.Lists.{any, all, below}
 
@@ -25,11 +18,11 @@ module _ (s : List ℕ) (ok : Accepted s) where
   unfolding bad_ends
   clause_rises i h =
       ltb-false (clause_end s i) (clause_start s i)
-      (any_none (falls s) (below (clause_count s)) (or_split (any (falls s) (below (clause_count s))) _ (passed s ok).ends_rise).0 i (in_below (clause_count s) i h))
+      (any_none (falls s) (below (clause_count s)) (or_parts (any (falls s) (below (clause_count s))) _ (passed s ok).ends_rise).0 i (in_below (clause_count s) i h))
 
   pub last_end : clause_start s (clause_count s) ≡ literal_count s
   unfolding bad_ends
-  last_end = eqb-true (clause_start s (clause_count s)) (literal_count s) (not-false _ (or_split (any (falls s) (below (clause_count s))) _ (passed s ok).ends_rise).1)
+  last_end = eqb-true (clause_start s (clause_count s)) (literal_count s) (not-false _ (or_parts (any (falls s) (below (clause_count s))) _ (passed s ok).ends_rise).1)
 
   -- so many clauses before the last, the starts have not fallen since
   starts_rise : (d i : ℕ) → i + d ≡ clause_count s → clause_start s i ≤ clause_start s (clause_count s)

@@ -1,28 +1,15 @@
 -- The branch order of an accepted sheet names each atom that is given a value once, and nothing else. Assumes nothing.
-use Prim.Native.Nat.{ℕ}
-use mathlib.Core.Bool.{Bool, true, false, ◌||◌, false≢true}
-use mathlib.Core.List.Memᴰ.{append_cases}
-use mathlib.Core.List.Memᴰ.{append_right}
-use mathlib.Core.List.Memᴰ.{cases_cons}
-use mathlib.Core.List.Memᴰ.{cast}
-use mathlib.Core.List.Memᴰ.{eq_of_singleton}
-use mathlib.Core.List.Memᴰ.{head}
-use mathlib.Core.List.Memᴰ.{map as mem_map}
-use mathlib.Core.List.Memᴰ.{not-nil}
-use mathlib.Core.List.Memᴰ.{of_map}
-use mathlib.Core.List.Memᴰ.{tail}
-use mathlib.Core.List.{List, [], ◌∷◌, map, map-append, Memᴰ as Mem}
-use mathlib.Core.Logic.{⊎_elim}
-use mathlib.Core.Path.{◌≡◌, refl, sym, ap, ◌∙◌, subst}
-use native.Mathlib.Nat.{le_antisymm}
-use lib.ListN.{length, length-map}
-use borrow.Author.Tests.{eq-eqb, eqb-true}
+use Rattle.std.proofs.Common.{ℕ, Bool, true, false, ◌||◌, List, [], ◌∷◌, map, ⊎_elim, ◌≡◌, refl, sym, ap, ◌∙◌, subst, le_antisymm, length, eq-eqb, eqb-true}
+use Rattle.std.proofs.Math.Bool.{or-true}
+use Rattle.std.proofs.lemmas.Bool.{false≢true}
+use mathlib.Core.List.Memᴰ.{append_cases, append_right, cases_cons, cast, eq_of_singleton, head, map as mem_map, not-nil, of_map, tail}
+use Rattle.std.proofs.lemmas.List.{map-append, length-map}
+use mathlib.Core.List.{Memᴰ as Mem}
 use Rattle.sheet.proofs.Atoms.{up_to_apart, objectives_valued}
 use Rattle.sheet.proofs.BranchLaws.{taking_old, taking_new, names_taking}
 use Rattle.sheet.specs.Literals.{Lit, pos, atom}
 use Rattle.sheet.specs.Order.{valued, readings, names, taking, taking_all, branch}
 use Rattle.sheet.specs.Reading.{Sheet, sheet_of, Accepted}
-use Rattle.words.proofs.Bools.{or_true}
 use Rattle.words.proofs.Members.{any_out, any_none, distinct_snoc, distinct_fit}
 use Rattle.words.specs.Lists.{any, Distinct}
 
@@ -63,7 +50,7 @@ names_all a so (l ∷ ls) e = names_all a (taking so l) ls (names_taking so l a 
 names_taken : (a : ℕ) (so ls : List Lit) (l : Lit) → Mem l ls → atom l ≡ a → any (names a) (taking_all so ls) ≡ true
 names_taken a so [] l m e = absurd (not-nil m)
 names_taken a so (x ∷ xs) l m e =
-    ⊎_elim (λ h. names_all a (taking so x) xs (names_taking so x a ∙ ap (λ (b : Bool). any (names a) so || b) (eq-eqb (atom x) a (ap atom (sym h) ∙ e)) ∙ or_true (any (names a) so)))
+    ⊎_elim (λ h. names_all a (taking so x) xs (names_taking so x a ∙ ap (λ (b : Bool). any (names a) so || b) (eq-eqb (atom x) a (ap atom (sym h) ∙ e)) ∙ or-true (any (names a) so)))
     (λ k. names_taken a (taking so x) xs l k e) (cases_cons m)
 
 -- ---- the branch order

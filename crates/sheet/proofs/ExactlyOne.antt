@@ -1,14 +1,8 @@
 -- The document's table says exactly one thing of every list of bytes. Assumes nothing.
-use Prim.Native.Nat.{ℕ}
-use mathlib.Core.Bool.{Bool, true, false, false≢true}
-use mathlib.Core.List.Memᴰ.{append_right}
-use mathlib.Core.List.Memᴰ.{cases_cons}
-use mathlib.Core.List.Memᴰ.{head}
-use mathlib.Core.List.Memᴰ.{not-nil}
-use mathlib.Core.List.Memᴰ.{tail}
-use mathlib.Core.List.{List, [], ◌∷◌, ◌++◌, Memᴰ as Mem}
-use mathlib.Core.Logic.{⊎_elim}
-use mathlib.Core.Path.{◌≡◌, refl, sym, ap, ◌∙◌, subst}
+use Rattle.std.proofs.Common.{ℕ, Bool, true, false, List, [], ◌∷◌, ◌++◌, ⊎_elim, ◌≡◌, refl, sym, ap, ◌∙◌, subst}
+use Rattle.std.proofs.lemmas.Bool.{false≢true}
+use mathlib.Core.List.Memᴰ.{append_right, cases_cons, head, not-nil, tail}
+use mathlib.Core.List.{Memᴰ as Mem}
 use Rattle.sheet.specs.Reading.{Row, table, first_of, Sheet, sheet_of, Reading, refused, understood, read, Accepted}
 
 -- the row applies, and none before it does

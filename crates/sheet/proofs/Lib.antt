@@ -10,6 +10,7 @@ pub mod BranchLaws
 pub mod Atoms
 pub mod EachOnce
 pub mod Answered
+pub mod Backwards
 pub mod Worked
 pub mod WorkedSheets
 pub mod Alike

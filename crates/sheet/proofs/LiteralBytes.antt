@@ -1,16 +1,15 @@
 -- The code's literals and the document's, literal bytes, complements, and the byte of a literal. Assumes nothing.
-use Rattle.std.proofs.Common.{ℕ, ◌-◌, ◌≤◌, ◌<◌, Bool, true, false, cond, List, [], ◌∷◌, map, length, Option, Some, None, option_map, is_some, IsSome, ◌≡◌, refl, sym, ap, ap₂, ◌∙◌, lit≤, arith}
+use Rattle.std.proofs.Common.{ℕ, ◌-◌, ◌≤◌, ◌<◌, Bool, true, false, cond, List, [], ◌∷◌, map, length, Option, Some, None, option_map, is_some, IsSome, ◌≡◌, refl, sym, ap, ap₂, ◌∙◌, lit≤, arith, ⊎_elim}
+use Rattle.std.proofs.lemmas.Bool.{or_cases}
 use mathlib.Core.HLevel.{is_prop→PathP}
 use mathlib.Core.List.Memᴰ.{head, tail}
 use mathlib.Core.List.{Memᴰ as Mem}
-use mathlib.Core.Logic.{⊎_elim}
 use Rattle.std.proofs.Math.Bridge.{le_prop}
 use Rattle.sheet.proofs.Literals.{between_says, literal_low, literal_high, literal_atom, literal_small, byte_of_literal, atom_literal, negation_literal}
 use Rattle.sheet.specs.Enums.{lit, literal_in}
 use Rattle.sheet.specs.Layout.{byte}
 use Rattle.sheet.specs.Literals.{Lit, pos, neg, atom, plain, literal, between, is_literal, byte_of, complement}
 use Rattle.sheet.specs.declared.literal.Literal.{Literal}
-use Rattle.words.proofs.Bools.{or_cases}
 use Rattle.words.proofs.Members.{all_out, mem_at}
 use Rattle.words.specs.Lists.{all}
 
@@ -95,6 +94,9 @@ none_found n b e = go (is_literal n b) e
 
 pub answered_of : (n b : ℕ) {l : Lit} → Some l ≡ literal_in n b → true ≡ is_literal n b
 answered_of n b e = sym (found_literal n b e).0
+
+pub answered_neither : (n b : ℕ) → None ≡ literal_in n b → false ≡ is_literal n b
+answered_neither n b e = sym (none_found n b e)
 
 -- what an answer that is a literal says of the byte
 pub record Told (n b : ℕ) (p : Bool) (a : ℕ) : Type 0 where

@@ -1,14 +1,10 @@
 -- Bytes and the literals that they stand for. Assumes nothing.
-use Prim.Native.Nat.{ℕ, suc, ◌-◌, ◌≤◌, ◌<◌}
-use mathlib.Core.Bool.{Bool, true, false, cond, ◌&&◌, ◌||◌}
-use mathlib.Core.Logic.{⊎_elim}
-use mathlib.Core.Path.{◌≡◌, refl, sym, ap, ap₂, ◌∙◌}
-use native.Mathlib.Omega.{arith}
-use lib.Dec.{ltb, leb, lit≤}
-use lib.IntN.{ℤ, sub_ℕ}
-use borrow.Author.Tests.{lt-ltb, le-ltb, le-leb, lt-leb, leb-true, ltb-true, ltb-false}
+use Rattle.std.proofs.Common.{ℕ, suc, ◌-◌, ◌≤◌, ◌<◌, Bool, true, false, cond, ◌&&◌, ◌||◌, ⊎_elim, ◌≡◌, refl, sym, ap, ap₂, ◌∙◌, arith, ltb, leb, lit≤, ℤ, lt-ltb, le-ltb, le-leb, leb-true, ltb-true, ltb-false}
+use Rattle.std.proofs.Math.Bool.{or-true, or-false, and-false}
+use Rattle.std.proofs.Math.IntN.{sub_ℕ}
+use Rattle.std.proofs.lemmas.Bool.{lt-leb, and_parts, or_cases}
 use Rattle.sheet.specs.Literals.{Lit, pos, neg, atom, signed, of_number, literal, between, is_literal, byte_of}
-use Rattle.words.proofs.Bools.{same_test, and_split, or_cases, or_true, or_false, and_false}
+use Rattle.words.proofs.Bools.{same_test}
 
 -- ---- the two halves of the bytes
 
@@ -33,7 +29,7 @@ literal_high b l h = let e : suc (256 - suc b) ≡ 256 - b = omega arith in ap o
 -- ---- a byte is a literal exactly if its atom is one of 1 to n
 
 pub between_says : (low high x : ℕ) → between low high x ≡ true → (low ≤ x) × (x ≤ high)
-between_says low high x e = let p = and_split (leb low x) (leb x high) e in (leb-true low x p.0, leb-true x high p.1)
+between_says low high x e = let p = and_parts (leb low x) (leb x high) e in (leb-true low x p.0, leb-true x high p.1)
 
 pub between_holds : (low high x : ℕ) → low ≤ x → x ≤ high → between low high x ≡ true
 between_holds low high x l h = ap₂ ◌&&◌ (le-leb low x l) (le-leb x high h)
@@ -42,12 +38,12 @@ pub between_below : (low high x : ℕ) → x < low → between low high x ≡ fa
 between_below low high x l = ap (λ (b : Bool). b && leb x high) (lt-leb low x l)
 
 pub between_past : (low high x : ℕ) → high < x → between low high x ≡ false
-between_past low high x h = ap (λ (b : Bool). leb low x && b) (lt-leb x high h) ∙ and_false (leb low x)
+between_past low high x h = ap (λ (b : Bool). leb low x && b) (lt-leb x high h) ∙ and-false (leb low x)
 
 module _ (n b : ℕ) (few : n ≤ 64) where
   low_byte : b < 128 → is_literal n b ≡ between 1 n b
   unfolding is_literal
-  low_byte h = ap (λ (x : Bool). between 1 n b || x) (between_below (256 - n) 255 b (omega arith)) ∙ or_false (between 1 n b)
+  low_byte h = ap (λ (x : Bool). between 1 n b || x) (between_below (256 - n) 255 b (omega arith)) ∙ or-false (between 1 n b)
 
   high_byte : 128 ≤ b → b < 256 → is_literal n b ≡ between 1 n (256 - b)
   unfolding is_literal
@@ -87,7 +83,7 @@ pub more_atoms : (n b : ℕ) → n ≤ 64 → is_literal n b ≡ true → is_lit
 unfolding is_literal
 more_atoms n b few e =
     ⊎_elim (λ h. let p = between_says 1 n b h in ap (λ (x : Bool). x || between 192 255 b) (between_holds 1 64 b p.0 (omega arith)))
-    (λ h. let p = between_says (256 - n) 255 b h in ap (λ (x : Bool). between 1 64 b || x) (between_holds 192 255 b (omega arith) p.1) ∙ or_true (between 1 64 b))
+    (λ h. let p = between_says (256 - n) 255 b h in ap (λ (x : Bool). between 1 64 b || x) (between_holds 192 255 b (omega arith) p.1) ∙ or-true (between 1 64 b))
     (or_cases (between 1 n b) (between (256 - n) 255 b) e)
 
 -- a literal is a byte

@@ -1,5 +1,8 @@
 -- A byte's number, its sign and its distance from zero, as the code finds them, and the literal that they give. Assumes nothing.
-use Rattle.std.proofs.Common.{ℕ, suc, ◌≤◌, ◌<◌, Bool, true, false, cond, ltb, ℤ, pos, negsuc, ◌-ℤ◌, int_lt, nat_abs, to_z, of_z, w8, Some, None, ◌≡◌, refl, sym, ap, ◌∙◌, arith, zero-le, zero-add, true≢false, ltb-true, ltb-false, lt-ltb, le-ltb}
+use Rattle.std.proofs.Common.{ℕ, suc, ◌≤◌, ◌<◌, Bool, true, false, cond, ltb, ℤ, pos, negsuc, ◌-ℤ◌, int_lt, nat_abs, to_z, of_z, w8, Some, None, ◌≡◌, refl, sym, ap, ◌∙◌, subst, arith, zero-le, zero-add, true≢false, ltb-true, ltb-false, lt-ltb, le-ltb}
+use lib.Dec.{T}
+use lib.Signed.{non_neg}
+use mir.Val.{Fits}
 use Rattle.sheet.proofs.Literals.{signed_low, signed_high, literal_atom, between_holds, between_below, between_past}
 use Rattle.sheet.specs.Enums.{literal_in}
 use Rattle.sheet.specs.Literals.{Lit, atom, signed, of_number, literal, between}
@@ -32,6 +35,11 @@ away_literal (negsuc k) d e some = ap Lit.neg e
 pub least_far : (v : ℤ) → of_z w8 v ≡ 128 → 128 ≤ atom (of_number v)
 least_far (pos k) e = omega arith
 least_far (negsuc k) e = omega arith
+
+-- a distance is a byte
+pub distance_fits : {x : ℤ} {k : ℕ} → x ≡ pos (suc k) → k < 127 → T (non_neg x) × Fits w8 (nat_abs x)
+distance_fits e h =
+    (subst (λ (x : ℤ). T (non_neg x)) (sym e) tt, subst (λ (x : ℤ). Fits w8 (nat_abs x)) (sym e) (record { fits = omega arith }))
 
 -- ---- the answer by the literal of the byte's number
 

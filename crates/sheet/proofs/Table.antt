@@ -1,12 +1,11 @@
 -- The rows of the document's table: what each says where its tests are known, and what is known where it does not apply. Assumes nothing.
 use Rattle.std.proofs.Common.{ℕ, ◌+◌, ◌≤◌, Bool, false, not, ◌||◌, List, [], ◌∷◌, ◌≡◌, sym, ap, ◌∙◌, add-one, eqb, length, ltb-false, eqb-true}
-use borrow.Author.Tests.{not-false}
+use Rattle.std.proofs.lemmas.Bool.{not-false, or_parts}
 use Rattle.sheet.proofs.Literals.{between_says}
 use Rattle.sheet.specs.Layout.{header, atom_count, clause_count, objective_count, literal_count, ends_at, literals_at, objectives_at, total_bytes, clause_start, clause_end, objective_bytes}
 use Rattle.sheet.specs.Literals.{between}
 use Rattle.sheet.specs.Passed.{Counted, Whole}
 use Rattle.sheet.specs.Reading.{short, out_of_range, misplaced, falls, bad_ends, bad_literal, bad_objective, row, table, first_of, Reading, understood, sheet_of, read}
-use Rattle.words.proofs.Bools.{or_split}
 use Rattle.words.specs.Lists.{any, below}
 
 module _ (s : List ℕ) where
@@ -36,9 +35,9 @@ module _ (s : List ℕ) where
   pub counted : 32 ≤ length s → out_of_range s ≡ false → Counted s
   unfolding out_of_range
   counted h e =
-      let p = or_split _ _ e in
-      let q = or_split _ _ p.0 in
-      let r = or_split _ _ q.0 in
+      let p = or_parts _ _ e in
+      let q = or_parts _ _ p.0 in
+      let r = or_parts _ _ q.0 in
       let n = between_says 1 64 (atom_count s) (not-false _ r.0) in
       record {
         header = h;
@@ -52,8 +51,8 @@ module _ (s : List ℕ) where
   pub placed : Counted s → misplaced s ≡ false → Whole s
   unfolding misplaced
   placed c e =
-      let p = or_split (not (eqb (header s 4) ends_at) || not (eqb (header s 5) (literals_at s)) || not (eqb (header s 6) (objectives_at s)) || not (eqb (header s 7) (total_bytes s))) _ e in
-      let q = or_split (not (eqb (header s 4) ends_at) || not (eqb (header s 5) (literals_at s)) || not (eqb (header s 6) (objectives_at s))) _ p.0 in
+      let p = or_parts (not (eqb (header s 4) ends_at) || not (eqb (header s 5) (literals_at s)) || not (eqb (header s 6) (objectives_at s)) || not (eqb (header s 7) (total_bytes s))) _ e in
+      let q = or_parts (not (eqb (header s 4) ends_at) || not (eqb (header s 5) (literals_at s)) || not (eqb (header s 6) (objectives_at s))) _ p.0 in
       record {
         counted = c;
         whole = eqb-true (length s) (header s 7) (not-false _ p.1) ∙ eqb-true (header s 7) (total_bytes s) (not-false _ q.1);

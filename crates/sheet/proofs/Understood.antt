@@ -1,9 +1,8 @@
 -- What an accepted sheet is understood as. Assumes nothing.
 use Rattle.std.proofs.Common.{ℕ, ◌-◌, ◌≤◌, false, List, map, ◌≡◌, refl, ◌∙◌, subst, arith, length, drop, length-drop, length-take-le}
-use mathlib.Core.List.Memᴰ.{head}
-use mathlib.Core.List.Memᴰ.{tail}
+use mathlib.Core.List.Memᴰ.{head, tail}
 use mathlib.Core.List.{Memᴰ as Mem}
-use lib.ListN.{length-map}
+use Rattle.std.proofs.lemmas.List.{length-map}
 use Rattle.sheet.proofs.ExactlyOne.{Says, exactly_one}
 use Rattle.sheet.proofs.Table.{short_says, counted, placed}
 use Rattle.sheet.specs.Layout.{atom_count, clause_count, objective_count, objectives_at, total_bytes, span, clause_bytes, objective_bytes}

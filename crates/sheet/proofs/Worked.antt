@@ -1,6 +1,5 @@
 -- The sheets A to F of document 01, "Sheets worked by hand", as bytes.
-use Prim.Native.Nat.{ℕ, ◌+◌, ◌*◌}
-use mathlib.Core.List.{List, [], ◌∷◌, ◌++◌}
+use Rattle.std.proofs.Common.{ℕ, ◌+◌, ◌*◌, List, [], ◌∷◌, ◌++◌}
 
 -- a 32-bit word below 256
 abbrev pub small : ℕ → List ℕ

@@ -1,8 +1,5 @@
 -- The sheets A to F are read as the clauses and objectives that document 01 says, computed. Assumes nothing.
-use Prim.Native.Nat.{ℕ}
-use mathlib.Core.List.{List, [], ◌∷◌, map}
-use mathlib.Core.Path.{◌≡◌, refl}
-use lib.ListN.{length}
+use Rattle.std.proofs.Common.{ℕ, List, [], ◌∷◌, map, ◌≡◌, refl, length}
 use Rattle.sheet.specs.Layout.{word}
 use Rattle.sheet.specs.Literals.{Lit, pos, neg, signed, literal, is_literal}
 use Rattle.sheet.specs.Order.{taking, branch}

@@ -13,16 +13,17 @@ pub struct Literal {
 
 impl Literal {
     ghost use Rattle.std.specs.Option.{option_map};
-    ghost use Rattle.sheet.specs.Literals.{complement, place, byte_of};
+    ghost use Rattle.sheet.specs.Literals.{literal, complement, place, byte_of};
     ghost use Rattle.sheet.specs.Enums.{lit, literal_in};
 
-    /// The literal that a byte is among n atoms; n is a plain number with a bound, which a type for it would not make plainer. -128 has no negation, so it is
-    /// refused before.
+    /// The literal that a byte is among n atoms.
+    // n keeps its bound in the two clauses that need it: a type for one bound on one number would be made at each call, and say no more.
     pub fn read(b: u8, n: u8) -> Option<Literal>
         requires { n ≤ 64 }
         ensures { option_map lit result ≡ literal_in n b }
     {
         let v = b.cast_signed();
+        // -128 has no negation, so it is refused before: the document asks for it in this form, which `unsigned_abs` would hide.
         if v == -128 {
             return None;
         }
@@ -34,6 +35,14 @@ impl Literal {
             plain: 0 < v,
             atom: distance,
         })
+    }
+
+    /// The literal of a byte that is one.
+    pub fn of(b: u8) -> Literal
+        requires { is_literal 64 b ≡ true }
+        ensures { lit result ≡ literal b }
+    {
+        Literal::read(b, 64).unwrap()
     }
 
     pub fn complement(self) -> Literal
@@ -59,12 +68,13 @@ impl Literal {
         if self.plain {
             self.atom
         } else {
-            255 - self.atom + 1
+            self.atom.wrapping_neg()
         }
     }
 }
 
 /// Whether a byte is a literal of n atoms.
+// The bound of n is said of `read`.
 pub fn is_literal(b: u8, n: u8) -> bool
     requires { n ≤ 64 }
     ensures { result ≡ is_literal n b }
@@ -84,16 +94,11 @@ impl LiteralBytes<'_> {
     ghost use Rattle.sheet.specs.Literals.{literal};
     ghost use Rattle.sheet.specs.Enums.{lit};
 
-    pub fn len(self) -> usize
-        ensures { result ≡ length self.entry.bytes.now }
-    {
-        self.bytes.len()
-    }
-
+    /// The literal at a place.
     pub fn at(self, i: usize) -> Literal
         requires { i < length self.bytes.now }
         ensures { lit result ≡ literal (byte self.entry.bytes.now i) }
     {
-        Literal::read(self.bytes[i], 64).unwrap()
+        Literal::of(self.bytes[i])
     }
 }

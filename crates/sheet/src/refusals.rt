@@ -59,7 +59,8 @@ pub fn bad_literal(sheet: Laid) -> bool
     bytes.iter().any(|&b| !is_literal(b, n))
 }
 
-/// 15: whether some objective byte is no literal, or stands twice: the search is left at the first such byte.
+/// 15: whether some objective byte is no literal, or stands twice.
+// Loops over the pairs, left by a label at the first such byte: the form that the document names for this place.
 pub fn bad_objective(sheet: Laid) -> bool
     ensures { result ≡ bad_objective (atom_count sheet.entry.bytes.now) (objective_bytes sheet.entry.bytes.now) }
 {

@@ -1,8 +1,7 @@
 -- Numbers in decimal: the definition is the library's, so the library's laws are its own. Assumes nothing.
-use Rattle.std.proofs.Common.{ℕ, suc, ◌^◌, ◌/◌, ◌%◌, ◌≤◌, ◌<◌, ◌≡◌, Bool, true, false, cond, [], ◌∷◌, ◌++◌, length, refl, ap, arith}
+use Rattle.std.proofs.Common.{ℕ, suc, ◌^◌, ◌/◌, ◌%◌, ◌≤◌, ◌<◌, ◌≡◌, Bool, true, false, cond, [], ◌∷◌, ◌++◌, length, refl, ap, arith, lt-ltb, le-ltb}
 use Rattle.std.specs.Fmt.{decimal as printed}
 use Rattle.std.proofs.lemmas.Fmt.{AppendsLastDigit, decimal_from_appends, length-decimal-le, length-decimal-le_succ}
-use borrow.Author.Tests.{lt-ltb, le-ltb}
 use Rattle.text.specs.Text.{letters, digit, spelt, decimal, signed_decimal}
 
 spelt_appends : AppendsLastDigit spelt

@@ -1,10 +1,9 @@
 -- Putting a text into a buffer: a copy over a part of it, nothing, a text behind another. Assumes nothing.
-use Rattle.std.proofs.Common.{ℕ, ◌+◌, ◌-◌, ◌≤◌, ◌≡◌, List, [], ◌++◌, length, take, drop, refl, sym, ap, ap₂, subst, ◌∙◌, arith, length-append, append_assoc}
+use Rattle.std.proofs.Common.{ℕ, ◌+◌, ◌-◌, ◌≤◌, ◌≡◌, List, ◌++◌, length, take, drop, refl, sym, ap, ap₂, subst, ◌∙◌, arith, length-append, append_assoc, MutBor}
 use Rattle.std.proofs.Math.Seq.{paste}
-use Rattle.std.proofs.lemmas.List.Edits.{paste_none, paste_all, paste-paste, length-paste}
+use Rattle.std.proofs.lemmas.List.Edits.{paste_all, paste-paste, length-paste}
 use Rattle.std.proofs.lemmas.Slice.{put_mid-paste}
 use borrow.Rule.Slice.PartMut.{put_mid}
-use denote.MutBor.{MutBor}
 use Rattle.text.specs.declared.Text.{Text}
 use Rattle.text.specs.Text.{written, Puts, Adds}
 
@@ -33,10 +32,6 @@ copied t s part room same =
       filled = ap (λ (l : List ℕ). record s.bytes { now = l }) is;
       long = ap length is ∙ length-written t s.end s.bytes.now room;
     }
-
--- nothing put is a text put
-pub nothing_put : (s : Text) → Adds [] s s
-nothing_put s = record { ends = omega arith; filled = ap (λ (l : List ℕ). record s.bytes { now = l }) (paste_none s.bytes.now s.end [] ∙ sym (written_is [] s.end s.bytes.now)); long = refl }
 
 -- a text put behind another
 pub put_behind : {t u : List ℕ} {at : ℕ} {b b' b'' : List ℕ} {e e' : ℕ} → at ≤ length b → Puts t at b b' e → Puts u e b' b'' e' → Puts (t ++ u) at b b'' e'

@@ -1,7 +1,7 @@
 -- Text as bytes: letters, numbers in decimal, and a buffer into which a text has been put.
+use Rattle.std.specs.Prelude.{ℕ, zero, suc, ◌+◌, ◌/◌, ◌%◌, Bool, cond, List, [], ◌∷◌, ◌++◌, ◌≡◌, ltb, length, take, drop}
 use Prim.Native.Char.{code}
 use Rattle.text.specs.declared.Text.{Text}
-use Rattle.std.specs.Prelude.{ℕ, zero, suc, ◌+◌, ◌/◌, ◌%◌, Bool, cond, List, [], ◌∷◌, ◌++◌, ◌≡◌, ltb, length, take, drop}
 use Prim.Native.String.{String, [] as empty, ◌∷◌ as ◌then◌}
 
 -- the bytes of a text in ASCII

@@ -77,11 +77,11 @@ untold_told (Missed n) = refl
 untold_told (Found n p) = refl
 untold_told (Spent n) = refl
 
--- with the premise of `closed`, and the same of the ban, which stands behind a reference here
-pub seek_alike : Determines seek_kinds.ps seek_kinds.r (λ κs a. seek.Pre κs a × AllFitting a.0.now.network.clauses.now × Fitting a.0.now.ban) seek.Post (λ κs x. x)
+-- with the premise of `closed`. That the argument is of its type tells nothing of the ban either, which stands behind a reference here; the test's own fact does.
+pub seek_alike : Determines seek_kinds.ps seek_kinds.r (λ κs a. seek.Pre κs a × AllFitting a.0.now.network.clauses.now) seek.Post (λ κs x. x)
 seek_alike κs a good pre x y v w p q = (
   sym (untold_told x)
-      ∙ ap untold (stood pre.1 pre.2 (fitting _ good.1.1.0) p.0 q.0)
+      ∙ ap untold (stood pre.1 a.0.now.words (fitting _ good.1.1.0) p.0 q.0)
       ∙ untold_told y,
   refl,
 )

@@ -1,5 +1,6 @@
 -- The walk of a grown tree, as the code leaves it: one law for each way out. Assumes nothing.
 use Rattle.std.proofs.Common.{ℕ, ◌+◌, ◌≤◌, ◌<◌, Bool, true, false, List, [], ◌∷◌, ◌++◌, map, ◌≡◌, sym, ap, ◌∙◌, length, drop_of_length-le, lt-ltb, le-ltb}
+use Rattle.std.proofs.lemmas.List.{drop_more}
 use Rattle.prepare.specs.declared.network.Network.{Network}
 use Rattle.search.specs.Grown.{Node, grow}
 use Rattle.search.specs.Search.{State, Cut, with_steps, from, visit, visit_candidate}
@@ -7,7 +8,6 @@ use Rattle.search.specs.Tree.{Tree, closed, full, fork, Run, on, off, then, walk
 use Rattle.sheet.specs.Layout.{byte}
 use Rattle.sheet.specs.Literals.{Lit, literal, complement, plains}
 use Rattle.walk.specs.Carried.{order_from}
-use Rattle.words.proofs.Lists.{onward}
 
 -- ---- a visit
 
@@ -80,7 +80,7 @@ module _ {S A : Type 0} (visit : S → Run S A) (act : ℕ → S → Run S A) wh
 
 module _ (n : Network) (depth : ℕ) where
   pub order_next : depth < length n.order.bytes.now → {l : Lit} → l ≡ literal (byte n.order.bytes.now depth) → order_from depth n ≡ l ∷ order_from (depth + 1) n
-  order_next h e = ap (map literal) (onward 0 n.order.bytes.now depth h) ∙ ap (λ (l : Lit). l ∷ order_from (depth + 1) n) (sym e)
+  order_next h e = ap (map literal) (drop_more n.order.bytes.now depth 0 h) ∙ ap (λ (l : Lit). l ∷ order_from (depth + 1) n) (sym e)
 
   pub order_end : length n.order.bytes.now ≤ depth → order_from depth n ≡ []
   order_end h = ap (map literal) (drop_of_length-le n.order.bytes.now h)

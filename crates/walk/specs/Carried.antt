@@ -1,6 +1,6 @@
 -- How the code carries the search: its words for nodes and conditions, its enums and structs for the ends of a walk. No promise to an outside
 -- caller rests on this file; it links the code's own functions.
-use Rattle.std.specs.Prelude.{ℕ, ◌≤◌, Bool, true, false, List, [], ◌∷◌, ◌++◌, map, ◌≡◌, length, take, drop}
+use Rattle.std.specs.Prelude.{ℕ, ◌≤◌, Bool, true, false, List, [], ◌∷◌, ◌++◌, map, ◌≡◌, length, take, drop, Option, Some, None}
 use Rattle.prepare.specs.Carried.{sets_of, Placed, Clauses, Prepared}
 use Rattle.prepare.specs.declared.clauses.Literals.{Literals}
 use Rattle.prepare.specs.declared.network.Network.{Network}
@@ -12,7 +12,7 @@ use Rattle.sheet.specs.Enums.{lit}
 use Rattle.sheet.specs.Literals.{Lit, complement, literal}
 use Rattle.sheet.specs.Reading.{Sheet}
 use Rattle.sheet.specs.declared.literal.Literal.{Literal}
-use Rattle.walk.specs.declared.candidates.Ending.TheVariants.{Going, Affirmed, Exhausted, Full}
+use Rattle.walk.specs.declared.candidates.Ending.TheVariants.{Affirmed, Exhausted, Full}
 use Rattle.walk.specs.declared.candidates.Ending.{Ending}
 use Rattle.walk.specs.declared.candidates.Search.{Search}
 use Rattle.walk.specs.declared.candidates.Walked.{Walked}
@@ -76,14 +76,14 @@ parts_in count store = take count store
 abbrev pub state_of : Walked → List ℕ → State
 state_of w store = record { steps = w.steps; tests = w.tests; stored = parts_in w.stored store }
 
-abbrev pub ended_as : Ending → State → Run State Answer
-ended_as Going s = on s
-ended_as (Affirmed m) s = off s (Yes m)
-ended_as Exhausted s = off s Cut
-ended_as Full s = off s NoPlace
+abbrev pub ended_as : Option Ending → State → Run State Answer
+ended_as None s = on s
+ended_as (Some (Affirmed m)) s = off s (Yes m)
+ended_as (Some Exhausted) s = off s Cut
+ended_as (Some Full) s = off s NoPlace
 
--- the answer that an ending comes to, whatever the state
-abbrev pub answer_of : Ending → Answer
+-- the answer that an ending comes to, or that there is none, whatever the state
+abbrev pub answer_of : Option Ending → Answer
 answer_of e = answered (ended_as e start)
 
 -- how far the candidate walk is, in the document's terms

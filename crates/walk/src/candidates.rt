@@ -1,11 +1,10 @@
 // The candidate walk, and what a candidate does.
-ghost use Rattle.std.specs.Prelude.{◌≡◌, ◌∷◌, map, ◌≤◌, ◌<◌, length};
+ghost use Rattle.std.specs.Prelude.{◌≡◌, ◌∷◌, map, ◌≤◌, ◌<◌, length, None as none};
 ghost use Rattle.words.specs.Lists.{any, pick};
 ghost use Rattle.words.specs.Positions.{strictly_within};
 ghost use Rattle.sheet.specs.Enums.{lit};
 ghost use Rattle.sheet.specs.Literals.{literal, complement as complement_of};
 ghost use Rattle.search.specs.Models.{holds as is_true};
-ghost use Rattle.walk.specs.declared.candidates.Ending.TheVariants.{Going as going};
 ghost use Rattle.walk.specs.Carried.{steps_of, InBounds, Onward, TellsSettled, TellsJudged, TellsRoamed, TellsSearched};
 ghost use Rattle.prepare.specs.Carried.{sets_of};
 
@@ -15,23 +14,23 @@ use prepare::clauses::Literals;
 use prepare::network::Network;
 use sheet::literal::{Literal, LiteralBytes};
 
-/// Why the candidate walk ends, if it does.
+/// Why the candidate walk has ended: yes, by this model; the steps are spent; or a part has no place in the store.
 #[derive(Clone, Copy, Debug, PartialEq, Eq)]
 pub enum Ending {
-    Going,
     Affirmed(u64),
     Exhausted,
     Full,
 }
 
-/// How far the candidate walk is. The stored parts stand in the first places of the lent store. The counts are in the result, as the document has them, and the
-/// places are the caller's, from C too: so a walk takes and hands on the one beside the other.
+/// How far the candidate walk is, and why it has ended, if it has. The stored parts stand in the first places of the lent store.
+// The document has the counts in the result. A struct that held the store too would have to promise at every call of the recursion that it still lends the same
+// places, as `prepare::order::Order` has to, which is no plainer.
 #[derive(Clone, Copy, Debug, PartialEq, Eq)]
 pub struct Walked {
     pub steps: u64,
     pub tests: u64,
     pub stored: usize,
-    pub ending: Ending,
+    pub ending: Option<Ending>,
 }
 
 /// The candidate walk for a question: what may not be true, and the allowance of steps.
@@ -48,8 +47,8 @@ fn ban_of(objectives: LiteralBytes, model: u64, question: Literal) -> Literals
     ensures { result ≡ sets_of (map complement_of (complement_of (lit question) ∷ pick (is_true model) (map literal objectives.entry.bytes.now))) }
 {
     let mut ban = Literals::default();
-    for i in (0..objectives.len()).rev() {
-        let l = objectives.at(i);
+    for &b in objectives.bytes.iter().rev() {
+        let l = Literal::of(b);
         if holds(model, l) {
             ban = ban.with(l.complement());
         }
@@ -76,7 +75,7 @@ fn settle(tried: Tried, model: u64, w: Walked, store: &mut [u64]) -> Walked
     match tried {
         Tried::Missed(steps) => Walked {
             steps,
-            ending: Ending::Affirmed(model),
+            ending: Some(Ending::Affirmed(model)),
             ..w
         },
         Tried::Found(steps, part) => {
@@ -85,19 +84,19 @@ fn settle(tried: Tried, model: u64, w: Walked, store: &mut [u64]) -> Walked
                 return Walked {
                     steps,
                     stored: w.stored + 1,
-                    ending: Ending::Going,
+                    ending: None,
                     ..w
                 };
             }
             Walked {
                 steps,
-                ending: Ending::Full,
+                ending: Some(Ending::Full),
                 ..w
             }
         }
         Tried::Spent(steps) => Walked {
             steps,
-            ending: Ending::Exhausted,
+            ending: Some(Ending::Exhausted),
             ..w
         },
     }
@@ -106,7 +105,7 @@ fn settle(tried: Tried, model: u64, w: Walked, store: &mut [u64]) -> Walked
 impl Search<'_> {
     /// What a candidate does: the model of a full node that has been visited.
     fn judge(&self, model: u64, w: Walked, store: &mut [u64]) -> Walked
-        requires { (w.tests < w.steps) × ((w.stored ≤ length store.old) × (w.ending ≡ going)) }
+        requires { (w.tests < w.steps) × ((w.stored ≤ length store.old) × (w.ending ≡ none)) }
         ensures tells_judged { TellsJudged self.now model w result store.old store.new }
         ensures onward { Onward w.stored result store.old store.new }
     {
@@ -131,13 +130,13 @@ impl Search<'_> {
 
     /// The candidate walk below a node: no literal of the ban may be true.
     pub fn roam(&self, depth: usize, node: Literals, w: Walked, store: &mut [u64]) -> Walked
-        requires { (InBounds w store.old) × (w.ending ≡ going) }
+        requires { (InBounds w store.old) × (w.ending ≡ none) }
         ensures tells_roamed { TellsRoamed self.now depth node w result store.old store.new }
         ensures onward { Onward w.stored result store.old store.new }
     {
         if self.allowance <= w.steps {
             return Walked {
-                ending: Ending::Exhausted,
+                ending: Some(Ending::Exhausted),
                 ..w
             };
         }
@@ -148,14 +147,14 @@ impl Search<'_> {
         if closed(self.network.clauses, self.ban, node) {
             return visited;
         }
-        if self.network.order.len() <= depth {
+        if self.network.order.bytes.len() <= depth {
             return self.judge(node.plains, visited, store);
         }
         let l = self.network.order.at(depth);
         let first = self.roam(depth + 1, node.with(l), visited, store);
         match first.ending {
-            Ending::Going => self.roam(depth + 1, node.with(l.complement()), first, store),
-            _ => first,
+            None => self.roam(depth + 1, node.with(l.complement()), first, store),
+            Some(_) => first,
         }
     }
 }
@@ -176,7 +175,7 @@ pub fn walk_all(network: Network, question: Literal, allowance: u64, store: &mut
         steps: 0,
         tests: 0,
         stored: 0,
-        ending: Ending::Going,
+        ending: None,
     };
     search.roam(0, root, start, store)
 }

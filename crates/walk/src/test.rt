@@ -1,7 +1,6 @@
 // The test of a candidate: a walk of its own from the root.
-ghost use Rattle.std.specs.Prelude.{◌≡◌, map, ◌≤◌};
+ghost use Rattle.std.specs.Prelude.{◌≡◌, map, ◌≤◌, ◌<◌, ◌^◌};
 ghost use Rattle.sheet.specs.Literals.{literal};
-ghost use Rattle.walk.specs.Carried.{meet_part, told, steps_of, TellsTest};
 
 use crate::node::{closed, part_of};
 use prepare::clauses::Literals;
@@ -22,9 +21,13 @@ pub struct Test<'a> {
     pub ban: Literals,
     pub candidate: u64,
     pub allowance: u64,
+    // So it is with every pair of words; said of the ban, it is known behind `&self` too, where the logic tells nothing of a number's range.
+    pub ghost words: { (ban.plains < 2 ^ 64) × (ban.negated < 2 ^ 64) },
 }
 
 impl Test<'_> {
+    ghost use Rattle.walk.specs.Carried.{meet_part, told, steps_of, TellsTest};
+
     /// A full node of the test: it is found if its part strictly contains the candidate's.
     fn meet(&self, model: u64, steps: u64) -> Tried
         ensures { (told result ≡ meet_part (map literal self.now.network.objectives.bytes.now) self.now.candidate model steps) × (steps_of result ≡ steps) }
@@ -48,7 +51,7 @@ impl Test<'_> {
         if closed(self.network.clauses, self.ban, node) {
             return Tried::Missed(visited);
         }
-        if self.network.order.len() <= depth {
+        if self.network.order.bytes.len() <= depth {
             return self.meet(node.plains, visited);
         }
         let l = self.network.order.at(depth);

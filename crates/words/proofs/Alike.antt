@@ -1,5 +1,5 @@
 -- The contract of each public function determines its result. Assumes nothing.
-use mathlib.Core.Path.{refl, sym, ◌∙◌}
+use Rattle.std.proofs.Common.{refl, sym, ◌∙◌}
 use Rattle.words.proofs.Steady.{Determines}
 use Rattle.words.proofs.has.Kinds as has_kinds
 use Rattle.words.proofs.has.Reads as has

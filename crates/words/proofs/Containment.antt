@@ -1,14 +1,9 @@
 -- Containment, position by position and on whole words. Assumes nothing.
-use Prim.Native.Nat.{ℕ, ◌^◌, ◌<◌}
-use mathlib.Core.Bool.{Bool, true, false, not, ◌&&◌, ◌||◌, false≢true}
-use mathlib.Core.Path.{◌≡◌, sym, ap, ap₂, ◌∙◌}
-use native.Mathlib.Decide.{dec_lt}
-use native.Mathlib.Omega.{arith}
-use lib.Bits.{bit_and}
-use lib.Dec.{eqb}
-use borrow.Author.Tests.{eq-eqb, eqb-true, not-true}
+use Rattle.std.proofs.Common.{ℕ, ◌^◌, ◌<◌, Bool, true, false, not, ◌&&◌, ◌||◌, ◌≡◌, sym, ap, ap₂, ◌∙◌, arith, bit_and, eqb, eq-eqb, eqb-true}
+use Rattle.std.proofs.lemmas.Bool.{false≢true, not-true, and_parts, false_from_ne_true}
+use Rattle.std.proofs.Math.Decide.{dec_lt}
 use Rattle.words.proofs.Bits.{has_and, has_past, same_positions}
-use Rattle.words.proofs.Bools.{same_test, and_split, and_absorbs, implied, implies, refuted}
+use Rattle.words.proofs.Bools.{same_test, and_absorbs, implied, implies}
 use Rattle.words.proofs.Members.{all_in, all_out, in_below, below_in}
 use Rattle.words.specs.Lists.{below}
 use Rattle.words.specs.Positions.{has, within, strictly_within}
@@ -27,7 +22,7 @@ module _ (a b : ℕ) where
   within_and fits =
       same_test (within a b) (eqb (bit_and a b) a)
       (λ e. eq-eqb (bit_and a b) a (same_positions (bit_and a b) a (λ i. has_and a b i ∙ kept e i)))
-      (λ e. within_holds (λ i _ h. (and_split (has a i) (has b i) (sym (has_and a b i) ∙ ap (λ (w : ℕ). has w i) (eqb-true (bit_and a b) a e) ∙ h)).1))
+      (λ e. within_holds (λ i _ h. (and_parts (has a i) (has b i) (sym (has_and a b i) ∙ ap (λ (w : ℕ). has w i) (eqb-true (bit_and a b) a e) ∙ h)).1))
     where
       -- below 64 what is in a is in b, and from there on nothing is in a
       kept : within a b ≡ true → (i : ℕ) → (has a i && has b i) ≡ has a i
@@ -43,7 +38,7 @@ within_trans a b c e f = within_holds a c (λ i h t. within_says b c f i h (with
 
 pub strictly_says : (a b : ℕ) → strictly_within a b ≡ true → (within a b ≡ true) × (within b a ≡ false)
 unfolding strictly_within
-strictly_says a b e = let u = and_split (within a b) (not (within b a)) e in (u.0, not-true (within b a) u.1)
+strictly_says a b e = let u = and_parts (within a b) (not (within b a)) e in (u.0, not-true (within b a) u.1)
 
 pub strictly_irreflexive : (a : ℕ) → strictly_within a a ≡ true → ⊥
 strictly_irreflexive a e = let u = strictly_says a a e in false≢true (sym u.1 ∙ u.0)
@@ -54,4 +49,4 @@ strictly_transitive a b c e f =
     let u = strictly_says a b e in
     let v = strictly_says b c f in
     ap₂ (λ (x y : Bool). x && not y) (within_trans a b c u.0 v.0)
-    (refuted (within c a) (λ t. false≢true (sym u.1 ∙ within_trans b c a v.0 t)))
+    (false_from_ne_true (within c a) (λ t. false≢true (sym u.1 ∙ within_trans b c a v.0 t)))

@@ -1,31 +1,21 @@
 -- Tests over lists, one entry after the other, as a loop goes through them. Assumes nothing.
-use Prim.Native.Nat.{ℕ, zero, suc, ◌+◌, ◌-◌, ◌≤◌, ◌<◌}
-use mathlib.Core.Bool.{Bool, true, false}
-use mathlib.Core.List.{List, [], ◌∷◌, ◌++◌, map, map-append}
-use mathlib.Core.Logic.{⊎_elim}
-use mathlib.Core.Path.{◌≡◌, refl, sym, ap, ◌∙◌, subst}
-use native.Mathlib.Nat.{eq-or-lt_of_le, le_of_suc-le-suc}
-use native.Mathlib.Numerals.{add-one}
-use native.Mathlib.Omega.{arith}
-use lib.ListN.{length, get_or, take, drop, set, length-append, take-append-drop, drop_of_length-le, get_or-append}
-use lib.Seq.{drop-cons, get_or_at, set_at, append_snoc}
+use Rattle.std.proofs.Common.{ℕ, zero, suc, ◌+◌, ◌-◌, ◌≤◌, ◌<◌, Bool, true, false, List, [], ◌∷◌, ◌++◌, map, ⊎_elim, ◌≡◌, refl, sym, ap, ◌∙◌, subst, eq-or-lt_of_le, le_of_suc-le-suc, add-one, arith, length, get_or, drop, set, drop_of_length-le}
+use Rattle.std.proofs.lemmas.List.{drop_more, length_push, map-append, get_or_at, set_at}
+use Rattle.std.proofs.Math.ListN.{get_or-append}
+use Rattle.std.proofs.Math.Seq.{append_snoc}
 use Rattle.words.specs.Lists.{any, all, over, below}
-
--- the rest of a list from i on: its entry i, and what follows
-pub onward : {A : Type 0} (d : A) (xs : List A) (i : ℕ) → i < length xs → drop i xs ≡ get_or xs i d ∷ drop (i + 1) xs
-onward d xs i h = drop-cons xs i d h ∙ ap (λ (k : ℕ). get_or xs i d ∷ drop k xs) (sym (add-one i))
 
 module _ {A : Type 0} (f : A → Bool) (d : A) (xs : List A) (i : ℕ) where
   pub any_next : {b : Bool} → i < length xs → f (get_or xs i d) ≡ b → any f (drop i xs) ≡ elim b [ true ↦ true | false ↦ any f (drop (i + 1) xs) ]
   any_next h e =
-      ap (any f) (onward d xs i h) ∙ ap (λ (b : Bool). elim b as (λ _. Bool) [ true ↦ true | false ↦ any f (drop (i + 1) xs) ]) e
+      ap (any f) (drop_more xs i d h) ∙ ap (λ (b : Bool). elim b as (λ _. Bool) [ true ↦ true | false ↦ any f (drop (i + 1) xs) ]) e
 
   pub any_end : length xs ≤ i → any f (drop i xs) ≡ false
   any_end h = ap (any f) (drop_of_length-le xs h)
 
   pub all_next : {b : Bool} → i < length xs → f (get_or xs i d) ≡ b → all f (drop i xs) ≡ elim b [ true ↦ all f (drop (i + 1) xs) | false ↦ false ]
   all_next h e =
-      ap (all f) (onward d xs i h) ∙ ap (λ (b : Bool). elim b as (λ _. Bool) [ true ↦ all f (drop (i + 1) xs) | false ↦ false ]) e
+      ap (all f) (drop_more xs i d h) ∙ ap (λ (b : Bool). elim b as (λ _. Bool) [ true ↦ all f (drop (i + 1) xs) | false ↦ false ]) e
 
   pub all_end : length xs ≤ i → all f (drop i xs) ≡ true
   all_end h = ap (all f) (drop_of_length-le xs h)
@@ -35,7 +25,7 @@ module _ {A : Type 0} (f : A → Bool) (d : A) (xs : List A) (i : ℕ) where
 pub length_below : (n : ℕ) → length (below n) ≡ n
 unfolding below
 length_below zero = refl
-length_below (suc n) = length-append (below n) (n ∷ []) ∙ ap (λ (k : ℕ). k + 1) (length_below n) ∙ add-one n
+length_below (suc n) = length_push (below n) n ∙ ap (λ (k : ℕ). k + 1) (length_below n) ∙ add-one n
 
 pub get_or_below : (n i : ℕ) → i < n → get_or (below n) i 0 ≡ i
 unfolding below
@@ -52,7 +42,7 @@ get_or_below (suc n) i h = ⊎_elim last (λ l. earlier l (get_or_below n i l)) 
 pub numbers_back : (n i : ℕ) → 0 < i → i ≤ n → drop (i - 1) (below n) ≡ (i - 1) ∷ drop i (below n)
 numbers_back n i some h =
     let at : i - 1 + 1 ≡ i = omega arith in
-    onward 0 (below n) (i - 1) (subst (λ (k : ℕ). i - 1 < k) (sym (length_below n)) (omega arith))
+    drop_more (below n) (i - 1) 0 (subst (λ (k : ℕ). i - 1 < k) (sym (length_below n)) (omega arith))
     ∙ (λ j. get_or_below n (i - 1) (omega arith) j ∷ drop (at j) (below n))
 
 module _ (f : ℕ → Bool) (n i : ℕ) where
@@ -74,21 +64,17 @@ module _ (f : ℕ → Bool) (n i : ℕ) where
   pub all_numbers_end : n ≤ i → all f (drop i (below n)) ≡ true
   all_numbers_end h = all_end f 0 (below n) i (past_below h)
 
--- what can be taken whole is there
-pub taken_fits : {A : Type 0} (n : ℕ) (xs : List A) → length (take n xs) ≡ n → n ≤ length xs
-taken_fits n xs e = omega (arith, sym (length-append (take n xs) (drop n xs)) ∙ ap length (take-append-drop n xs))
-
 -- ---- a list that is filled from the front
 
 put_next : {A : Type 0} (xs d : List A) (i : ℕ) (v z : A) → length xs ≡ i → i < length d → set (xs ++ drop i d) i v ≡ (xs ++ (v ∷ [])) ++ drop (i + 1) d
 put_next xs d i v z e h =
-    ap (λ l. set (xs ++ l) i v) (onward z d i h) ∙ set_at xs (get_or d i z) (drop (i + 1) d) v i e ∙ sym (append_snoc xs v (drop (i + 1) d))
+    ap (λ l. set (xs ++ l) i v) (drop_more d i z h) ∙ set_at xs (get_or d i z) (drop (i + 1) d) v i e ∙ sym (append_snoc xs v (drop (i + 1) d))
 
 pub put_over : {A : Type 0} (xs d : List A) (i : ℕ) (v z : A) → length xs ≡ i → i < length d → set (over xs d) i v ≡ over (xs ++ (v ∷ [])) d
 put_over xs d i v z e h =
     ap (λ (k : ℕ). set (xs ++ drop k d) i v) e
     ∙ put_next xs d i v z e h
-    ∙ ap (λ (k : ℕ). (xs ++ (v ∷ [])) ++ drop k d) (sym (length-append xs (v ∷ []) ∙ ap (λ (k : ℕ). k + 1) e))
+    ∙ ap (λ (k : ℕ). (xs ++ (v ∷ [])) ++ drop k d) (sym (length_push xs v ∙ ap (λ (k : ℕ). k + 1) e))
 
 pub map_below_next : {B : Type 0} (f : ℕ → B) (i : ℕ) → map f (below (i + 1)) ≡ map f (below i) ++ (f i ∷ [])
 unfolding below

@@ -1,18 +1,8 @@
 -- Tests over lists by the members of the list, and lists in which no entry stands twice. Assumes nothing.
-use Rattle.std.proofs.Common.{ℕ, zero, suc, ◌≤◌, ◌<◌, Bool, true, false, ◌&&◌, ◌||◌, List, [], ◌∷◌, ◌++◌, ⊎_elim, ◌≡◌, refl, sym, ap, ◌∙◌, eq-or-lt_of_le, le_of_suc-le-suc, arith, length, get_or}
-use mathlib.Core.Bool.{false≢true}
-use mathlib.Core.List.Memᴰ.{append_cases}
-use mathlib.Core.List.Memᴰ.{append_left}
-use mathlib.Core.List.Memᴰ.{append_right}
-use mathlib.Core.List.Memᴰ.{cases_cons}
-use mathlib.Core.List.Memᴰ.{cast}
-use mathlib.Core.List.Memᴰ.{eq_of_singleton}
-use mathlib.Core.List.Memᴰ.{head}
-use mathlib.Core.List.Memᴰ.{not-nil}
-use mathlib.Core.List.Memᴰ.{tail}
+use Rattle.std.proofs.Common.{ℕ, zero, suc, ◌≤◌, ◌<◌, Bool, true, false, ◌&&◌, ◌||◌, List, [], ◌∷◌, ◌++◌, ⊎_elim, ◌≡◌, refl, sym, ap, ◌∙◌, eq-or-lt_of_le, le_of_suc-le-suc, arith, length, get_or, MatchBool}
+use Rattle.std.proofs.lemmas.Bool.{false≢true, false_from_ne_true}
+use mathlib.Core.List.Memᴰ.{append_cases, append_left, append_right, cases_cons, cast, eq_of_singleton, head, not-nil, tail}
 use mathlib.Core.List.{Memᴰ as Mem}
-use Rattle.std.specs.Bool.{MatchBool}
-use Rattle.words.proofs.Bools.{refuted}
 use Rattle.words.specs.Lists.{any, all, pick, below, Distinct}
 
 -- ---- tests and members
@@ -122,7 +112,7 @@ module _ {A : Type 0} (d : A) where
   pub any_found : (f : A → Bool) (xs : List A) {r : Bool} → MatchBool r ((k : ℕ) × (k < length xs) × (f (get_or xs k d) ≡ true)) ((k : ℕ) → k < length xs → f (get_or xs k d) ≡ false) → r ≡ any f xs
   any_found f xs {r = true} u = sym (any_in f xs (get_or xs u.0 d) (mem_at xs u.0 u.1) u.2)
   any_found f xs {r = false} each =
-      sym (refuted (any f xs) (λ e. let u = any_out f xs e in let v = at_mem xs u.0 u.1 in false≢true (sym (each v.0 v.1) ∙ ap f v.2 ∙ u.2)))
+      sym (false_from_ne_true (any f xs) (λ e. let u = any_out f xs e in let v = at_mem xs u.0 u.1 in false≢true (sym (each v.0 v.1) ∙ ap f v.2 ∙ u.2)))
 
 -- ---- the numbers below n
 

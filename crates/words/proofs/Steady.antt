@@ -1,9 +1,7 @@
 -- When a contract leaves no choice: of any two outcomes that it allows of one call, the caller sees the same result, and all that was lent to be
 -- written holds the same afterwards. It is said of the contract as it stands at the function, and not of the code: whatever code meets it gives
 -- what any other would. Assumes nothing.
-use Prim.Native.Nat.{ℕ}
-use mathlib.Core.List.{List}
-use mathlib.Core.Path.{◌≡◌}
+use Rattle.std.proofs.Common.{ℕ, List, ◌≡◌}
 use contract.Lifetimes.{Lfts}
 use denote.Triple.Clauses.{Lasts, at_exit}
 use borrow.Fn.Kinds.{ParamKind, ResultKind, In, Out, Dens, GoodsP, ended_of, res_t}

@@ -1,7 +1,7 @@
 -- Lists: tests over them, each of which stops at the first entry that decides it; a list written over another; the numbers that are gone
 -- through; when entries are distinct.
-use Rattle.std.specs.Prelude.{ℕ, zero, suc, Bool, true, false, length, drop}
-use mathlib.Core.List.{List, [], ◌∷◌, ◌++◌, Memᴰ as Mem}
+use Rattle.std.specs.Prelude.{ℕ, zero, suc, Bool, true, false, length, drop, List, [], ◌∷◌, ◌++◌}
+use mathlib.Core.List.{Memᴰ as Mem}
 
 module _ {A : Type 0} where
   -- some entry passes

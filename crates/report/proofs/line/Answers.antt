@@ -18,10 +18,10 @@ pub at-objective-requires : goal.at-objective-requires
 at-objective-requires c = omega (arith, listed_there _ c.args.ready.tables.accepted c.args.i c.requires, ap length c.objectives.ensures)
 
 -- the literal of the line, and what the code's reply says as numbers
-objective : (c : After-ask) → lit c.at-objective.result ≡ literal (byte (objective_bytes c.args.ready.sheet.now) c.args.i)
+objective : (c : After-ask) → lit c.at-objective.result ≡ literal (byte (objective_bytes c.args.ready.sheet.bytes.now) c.args.i)
 objective c = c.at-objective.ensures ∙ ap (λ (bs : List ℕ). literal (byte bs c.args.i)) c.objectives.ensures
 
-replied : (c : After-ask) → numbers_of c.ask.result ≡ asked c.args.ready.sheet.now (literal (byte (objective_bytes c.args.ready.sheet.now) c.args.i))
+replied : (c : After-ask) → numbers_of c.ask.result ≡ asked c.args.ready.sheet.bytes.now (literal (byte (objective_bytes c.args.ready.sheet.bytes.now) c.args.i))
 replied c =
     reply_asked _ _ c.ask.result (c.byte-question.ensures ∙ ap byte_of (c.complement.ensures ∙ ap complement (objective c))) c.ask.ensures.defined
 

@@ -1,26 +1,19 @@
--- `suspects::print`: the tables of a sheet that is not refused are lent as far as they go. Assumes nothing.
-use Rattle.std.proofs.Common.{ap, sym, ◌∙◌, arith, length-take-le}
+-- `suspects::print`: the tables of a sheet that is not refused stand in the first places of the room. Assumes nothing.
+use Rattle.std.proofs.Common.{arith}
 use Rattle.prepare.proofs.Preparing.{read_tables}
-use Rattle.sheet.proofs.Answered.{Sized, answered_accepted}
-use Rattle.sheet.proofs.Understood.{passed}
-use Rattle.sheet.specs.Enums.{numbered}
+use Rattle.sheet.proofs.Answered.{Sized, checked_sizes, sizes_small}
 use Rattle.suspects.proofs.print.Goals as goal
 use Rattle.suspects.proofs.print.Goals.{In-Ok}
 
 sized : (c : In-Ok) → Sized c.args.sheet.now c.in-Ok.sizes
-sized c = answered_accepted _ (sym (ap numbered c.in-Ok.is) ∙ c.heading-opening.ensures.checked)
+sized c = checked_sizes _ c.heading-opening.ensures.checked c.in-Ok.is
 
-pub slice_bounds-order-end : goal.slice_bounds-order-end
-slice_bounds-order-end c =
-    let z = sized (goal.at.slice_bounds-order-end c).In-Ok in
-    omega (arith, (passed _ z.accepted).sized.counted.atoms, z.atoms)
+pub ready-requires-clause-room : goal.ready-requires-clause-room
+ready-requires-clause-room c =
+    let small = sizes_small (sized (goal.at.ready-requires-clause-room c).In-Ok) in
+    (omega (arith, small.1), omega (arith, small.0))
 
-pub slice_bounds-ready-end : goal.slice_bounds-ready-end
-slice_bounds-ready-end c =
-    let z = sized (goal.at.slice_bounds-ready-end c).In-Ok in
-    sym (length-take-le c.from.result c.heading-opening.new.order (omega (arith, (passed _ z.accepted).sized.counted.atoms, z.atoms, c.heading-opening.array_long2)))
-
-pub invariant_of-ready : goal.invariant_of-ready
-invariant_of-ready c =
+pub ready-requires-clause-tables : goal.ready-requires-clause-tables
+ready-requires-clause-tables c =
     let e = c.heading-opening.ensures in
-    record { tables = rw c.from.ensures (read_tables _ _ (sized (goal.at.invariant_of-ready c).In-Ok) e.clauses e.order) }
+    read_tables _ _ (sized (goal.at.ready-requires-clause-tables c).In-Ok) e.clauses e.order

@@ -1,4 +1,4 @@
--- `prepare::clauses::clauses_into`: after i turns the first i places hold the sets of the first i clauses, and the others what they held.
+-- `prepare::clauses::clauses_into`: before clause i the first i places are filled, and the start is that of clause i.
 use Rattle.std.proofs.Common.{◌≡◌}
 use Rattle.prepare.proofs.SetLaws.{first_sets}
 use Rattle.prepare.proofs.clauses.clauses_into.Given as goal
@@ -9,5 +9,5 @@ abbrev pub invariant-loop-i : goal.invariant-loop-i
 invariant-loop-i l =
     record {
       started : l.start ≡ clause_start l.sheet.bytes.now l.i;
-      filled : l.clauses ≡ over (first_sets l.sheet.bytes.now l.i) l.fn.clauses;
+      filled : l.clause-items ≡ over (first_sets l.sheet.bytes.now l.i) l.initial.clause-items;
     }

@@ -15,5 +15,5 @@ returns c =
     let before = c.args.order.now in
     let lent = c.take_atoms.ensures.lent ∙ c.take_all.ensures.grown.lent in
     let ordered = c.take_atoms.ensures.order _ before (c.take_all.ensures.grown.order [] before (nothing_ordered _ refl refl)) in
-    let whole = ordered.written ∙ ap (λ (so : List Lit). over (map byte_of so) before) (branch_is s c.objectives-bytes.ensures c.atoms.ensures) in
+    let whole = ordered.written ∙ ap (λ (so : List Lit). over (map byte_of so) before) (branch_is s c.objectives-bytes.ensures refl) in
     grind (arith, lent, whole)

@@ -1,6 +1,7 @@
 -- `sheet::refusals::bad_objective`: a step of a loop is a step of the test over the positions. Assumes nothing.
 use Rattle.std.proofs.Common.{ℕ, List, Bool, true, false, ◌≡◌, ◌<◌, ◌≤◌, ◌+◌, take, get_or-take, length-take-le, not, ◌||◌, length, drop, get_or, refl, sym, ap₂, ◌∙◌, arith, eq-eqb, ne_eqb}
 use Rattle.sheet.proofs.refusals.bad_objective.Goals as goal
+use Rattle.sheet.proofs.refusals.bad_objective.Goals.{In-loop-earlier}
 use Rattle.sheet.specs.Layout.{byte, atom_count, objective_bytes}
 use Rattle.sheet.specs.Literals.{is_literal}
 use Rattle.sheet.specs.Reading.{same, bad_at, bad_objective}
@@ -27,10 +28,13 @@ module _ (os : List ℕ) (i j : ℕ) (in_os : i < length os) where
   its_byte : j < i → get_or (take i os) j 0 ≡ byte os j
   its_byte h = get_or-take i os j 0 h
 
+is_before : (c : In-loop-earlier) → c.loop-earlier.earlier-index < c.all.i
+is_before c = before c.objectives-bytes.result.now c.all.i c.loop-earlier.earlier-index c.all-test.true c.loop-earlier-test.true
+
 pub loop-earlier-preserved : goal.loop-earlier-preserved
 loop-earlier-preserved c =
     let os = c.objectives-bytes.result.now in
-    let lt = before os c.all.i c.loop-earlier.earlier-index c.all-test.true c.loop-earlier-test.true in (
+    let lt = is_before (goal.at.loop-earlier-preserved c).In-loop-earlier in (
       c.loop-earlier.invariant.0,
       c.loop-earlier.invariant.1
           ∙ any_number (same os c.all.i) c.all.i c.loop-earlier.earlier-index lt
@@ -66,7 +70,7 @@ unfolding bad_objective
 returns-then-earlier-b c =
     read c.args.sheet.bytes.now c.atoms-n.ensures c.objectives-bytes.ensures
     (let os = c.objectives-bytes.result.now in
-    let lt = before os c.all.i c.loop-earlier.earlier-index c.all-test.true c.loop-earlier-test.true in
+    let lt = is_before (goal.at.returns-then-earlier-b c).In-loop-earlier in
     sym
     (c.all.invariant.1
     ∙ next c.atoms-n.result os c.all.i c.all-test.true c.if-not-is_literal.ensures

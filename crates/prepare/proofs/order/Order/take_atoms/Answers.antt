@@ -37,12 +37,6 @@ loop-atom-preserved c =
       grown = further l.atom (omega arith) (omega arith) l.invariant.grown c.take.ensures.grown;
     }
 
-pub returns : goal.returns
-returns c =
-    let l = c.loop-atom in
-    let e : l.atom - 1 ≡ c.args.n = omega arith in
-    subst (λ (a : ℕ). Grown (map pos (up_to a)) c.args.self.now l.self) e l.invariant.grown
-
 pub returns-2 : goal.returns-2
 returns-2 c =
     let l = c.loop-atom in

@@ -8,6 +8,6 @@ use Rattle.words.specs.Lists.{all}
 
 pub invariant_of-result : goal.invariant_of-result
 invariant_of-result c =
-    let s = c.args.self.sheet.now in
+    let s = c.args.self.sheet.bytes.now in
     let known : all (is_literal 64) (objective_bytes s) ≡ true = objectives_literals s c.args.self.tables.accepted in
     record { literals = cc }

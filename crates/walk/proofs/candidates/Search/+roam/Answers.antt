@@ -1,30 +1,29 @@
 -- Each return is a case of the walk of the tree below the node. Assumes nothing.
-use Rattle.std.proofs.Common.{◌≡◌, ℕ, ◌+◌, ◌<◌, ◌≤◌, Bool, true, false, List, [], ◌∷◌, ◌++◌, length, refl, sym, ap, ◌∙◌, arith}
+use Rattle.std.proofs.Common.{◌≡◌, ℕ, ◌+◌, ◌<◌, ◌≤◌, Bool, true, false, List, [], ◌∷◌, ◌++◌, length, refl, sym, ap, ◌∙◌, arith, Option, Some}
 use Rattle.prepare.specs.Carried.{sets_of}
 use Rattle.prepare.specs.declared.clauses.Literals.{Literals}
 use Rattle.search.specs.Grown.{candidate_clauses, falsified, grow, posed}
 use Rattle.search.specs.Search.{State, Answer, Yes, Cut, NoPlace, with_steps, judge, visit_candidate}
 use Rattle.search.specs.Tree.{Run, on, off}
-use Rattle.sheet.proofs.LiteralBytes.{complement_placed}
+use Rattle.sheet.proofs.LiteralBytes.{complement_placed, placed_lit}
 use Rattle.sheet.specs.Enums.{lit}
 use Rattle.sheet.specs.Layout.{byte}
 use Rattle.sheet.specs.Literals.{Lit, literal, complement}
 use Rattle.sheet.specs.Reading.{Sheet}
 use Rattle.walk.proofs.Exits.{candidate_due, candidate_refused, out_refused, out_closed, out_full, out_first, out_second, order_next, order_end}
 use Rattle.walk.proofs.Judging.{onward_trans}
-use Rattle.walk.proofs.Sets.{lit_placed, stand_child}
+use Rattle.walk.proofs.Sets.{stand_child}
 use Rattle.walk.proofs.candidates.Search.+roam.Goals as goal
 use Rattle.walk.specs.Carried.{order_from, candidates_below, state_of, ended_as}
-use Rattle.walk.specs.declared.candidates.Ending.TheVariants.{Going, Affirmed, Exhausted, Full}
+use Rattle.walk.specs.declared.candidates.Ending.TheVariants.{Affirmed, Exhausted, Full}
 use Rattle.walk.specs.declared.candidates.Ending.{Ending}
 use Rattle.walk.specs.declared.candidates.Search.{Search}
 
--- a walk that is not going on has ended
-has_ended : (e : Ending) (s : State) → (e ≡ Going → ⊥) → (a : Answer) × (ended_as e s ≡ off s a)
-has_ended Going s not_on = absurd (not_on refl)
-has_ended (Affirmed m) s not_on = (Yes m, refl)
-has_ended Exhausted s not_on = (Cut, refl)
-has_ended Full s not_on = (NoPlace, refl)
+-- a walk for whose end there is a reason has ended
+has_ended : (e : Ending) (s : State) → (a : Answer) × (ended_as (Some e) s ≡ off s a)
+has_ended (Affirmed m) s = (Yes m, refl)
+has_ended Exhausted s = (Cut, refl)
+has_ended Full s = (NoPlace, refl)
 
 -- the walk of the search g below the node v from the state s on, by what the code finds there
 module _ (g : Search) (x : Sheet) (places depth : ℕ) (v : List Lit) (s : State) where
@@ -82,40 +81,41 @@ pub returns-then-closed-clause-tells_roamed : goal.returns-then-closed-clause-te
 returns-then-closed-clause-tells_roamed t c x v is st =
     let a = c.args in
     let s = state_of a.w a.store.now in
-    ap (λ (e : Ending). ended_as e (with_steps s (a.w.steps + 1))) c.requires.1
+    ap (λ (e : Option Ending). ended_as e (with_steps s (a.w.steps + 1))) c.requires.1
     ∙ shut a.self.now x (length a.store.now) a.depth v s c.if-self-w.false (sym (c.closed.ensures x.clauses (lit a.self.now.question ∷ []) v st) ∙ c.if-closed.true)
 
-pub returns-then-len-depth-clause-tells_roamed : goal.returns-then-len-depth-clause-tells_roamed
-returns-then-len-depth-clause-tells_roamed t c x v is st =
+pub returns-then-self-depth-clause-tells_roamed : goal.returns-then-self-depth-clause-tells_roamed
+returns-then-self-depth-clause-tells_roamed t c x v is st =
     let a = c.args in
     c.judge.ensures.tells_judged x is
     ∙ judged a.self.now x (length a.store.now) a.depth v (state_of a.w a.store.now) c.if-self-w.false
     (sym (c.closed.ensures x.clauses (lit a.self.now.question ∷ []) v st) ∙ c.if-closed.false) (omega arith) st.made
 
-pub returns-in-Going-clause-tells_roamed : goal.returns-in-Going-clause-tells_roamed
-returns-in-Going-clause-tells_roamed t c x v is st =
+pub returns-in-None-clause-tells_roamed : goal.returns-in-None-clause-tells_roamed
+returns-in-None-clause-tells_roamed t c x v is st =
     let a = c.args in
     let g = a.self.now in
     let l = lit c.at-l.result in
-    let placed = lit_placed c.at-l.result in
+    let placed = placed_lit c.at-l.result in
     let after = state_of c.roam-first.result c.roam-first.new.store in
     c.roam.ensures.tells_roamed x (v ++ (complement l ∷ [])) is
-    (stand_child st (complement l) (complement_placed l placed) (c.with-in-Going.ensures v st.made ∙ ap (λ (k : Lit). sets_of (k ∷ v)) c.complement.ensures))
+    (stand_child st (complement l) (complement_placed l placed) (c.with-in-None.ensures v st.made ∙ ap (λ (k : Lit). sets_of (k ∷ v)) c.complement.ensures))
     ∙ ap (λ (k : ℕ). candidates_below x (lit g.question) g.allowance k (order_from (a.depth + 1) g.network) (v ++ (complement l ∷ [])) after) c.roam-first.auto.store
     ∙ goes_on g x (length a.store.now) a.depth v (state_of a.w a.store.now) c.if-self-w.false
     (sym (c.closed.ensures x.clauses (lit g.question ∷ []) v st) ∙ c.if-closed.false) (omega arith) c.at-l.ensures
     (c.roam-first.ensures.tells_roamed x (v ++ (l ∷ [])) is (stand_child st l placed (c.with.ensures v st.made)))
-    (ap (λ (e : Ending). ended_as e after) c.in-Going.is)
+    (ap (λ (e : Option Ending). ended_as e after) c.in-None.is)
 
-pub returns-in-Going-clause-onward : goal.returns-in-Going-clause-onward
-returns-in-Going-clause-onward t c = onward_trans c.roam-first.ensures.onward c.roam.ensures.onward
+pub returns-in-None-clause-onward : goal.returns-in-None-clause-onward
+returns-in-None-clause-onward t c = onward_trans c.roam-first.ensures.onward c.roam.ensures.onward
 
-pub returns-in_default-clause-tells_roamed : goal.returns-in_default-clause-tells_roamed
-returns-in_default-clause-tells_roamed t c x v is st =
+pub returns-in-Some-clause-tells_roamed : goal.returns-in-Some-clause-tells_roamed
+returns-in-Some-clause-tells_roamed t c x v is st =
     let a = c.args in
     let g = a.self.now in
     let l = lit c.at-l.result in
+    let after = state_of c.roam-first.result c.roam-first.new.store in
     ended g x (length a.store.now) a.depth v (state_of a.w a.store.now) c.if-self-w.false
     (sym (c.closed.ensures x.clauses (lit g.question ∷ []) v st) ∙ c.if-closed.false) (omega arith) c.at-l.ensures
-    (c.roam-first.ensures.tells_roamed x (v ++ (l ∷ [])) is (stand_child st l (lit_placed c.at-l.result) (c.with.ensures v st.made)))
-    (has_ended c.roam-first.result.ending (state_of c.roam-first.result c.roam-first.new.store) c.in_default.not-Going).1
+    (c.roam-first.ensures.tells_roamed x (v ++ (l ∷ [])) is (stand_child st l (placed_lit c.at-l.result) (c.with.ensures v st.made)))
+    (ap (λ (e : Option Ending). ended_as e after) c.in-Some.is ∙ (has_ended c.in-Some.field-0 after).1)

@@ -1,6 +1,7 @@
 -- The scan is the pass-over rule, the call is the test, and settling is that of the definition. Assumes nothing.
-use Rattle.std.proofs.Common.{◌≡◌, ℕ, [], ◌∷◌, map, length, refl, sym, ap, ◌∙◌}
+use Rattle.std.proofs.Common.{◌≡◌, ℕ, [], ◌∷◌, map, length, refl, sym, ap, ◌∙◌, Option}
 use mathlib.Core.List.Memᴰ.{not-nil}
+use Rattle.prepare.proofs.SetLaws.{no_literals}
 use Rattle.prepare.specs.Carried.{Prepared}
 use Rattle.prepare.specs.declared.network.Network.{Network}
 use Rattle.search.specs.Models.{holds, part}
@@ -8,7 +9,7 @@ use Rattle.search.specs.Search.{settle, with_test}
 use Rattle.sheet.specs.Enums.{lit}
 use Rattle.sheet.specs.Literals.{literal, complement}
 use Rattle.sheet.specs.Reading.{Sheet}
-use Rattle.walk.proofs.Judging.{none_is, root_is, judge_passed, judge_tests, conditions_placed}
+use Rattle.walk.proofs.Judging.{judge_passed, judge_tests, conditions_placed}
 use Rattle.walk.proofs.candidates.Search.judge.Goals as goal
 use Rattle.walk.specs.Carried.{test_below, state_of, ended_as}
 use Rattle.walk.specs.declared.candidates.Ending.{Ending}
@@ -22,7 +23,7 @@ pub returns-then-passed_over-clause-tells_judged : goal.returns-then-passed_over
 returns-then-passed_over-clause-tells_judged c x is =
     let a = c.args in
     let g = a.self.now in
-    ap (λ (e : Ending). ended_as e (state_of a.w a.store.now)) c.requires.1.1
+    ap (λ (e : Option Ending). ended_as e (state_of a.w a.store.now)) c.requires.1.1
     ∙ sym (judge_passed x (lit g.question) g.allowance (length a.store.now) a.model (state_of a.w a.store.now)
     (its_part x g.network a.model is c.part_of-part.ensures) (sym c.passed_over.ensures ∙ c.if-passed_over.true))
 
@@ -39,7 +40,7 @@ returns-clause-tells_judged c x is =
       clauses = is.clauses;
       banned = c.ban_of.ensures;
       conditions = conditions_placed g.network.objectives a.model g.question;
-      made = none_is c.default.ensures.0 c.default.ensures.1 ∙ root_is;
+      made = no_literals c.default.ensures.0 c.default.ensures.1;
       decided = λ l h. absurd (not-nil h);
     })
     ∙ (λ i. test_below x.clauses (complement (lit g.question) ∷ pick (holds a.model) (is.objectives i)) (is.objectives i) (is.order i) [] (its i) g.allowance a.w.steps))

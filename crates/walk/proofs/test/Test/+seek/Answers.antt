@@ -5,13 +5,13 @@ use Rattle.prepare.specs.declared.clauses.Literals.{Literals}
 use Rattle.search.specs.Grown.{unit, falsified, grow}
 use Rattle.search.specs.Search.{Stop, found, spent, visit}
 use Rattle.search.specs.Tree.{Run, on, off}
-use Rattle.sheet.proofs.LiteralBytes.{complement_placed}
+use Rattle.sheet.proofs.LiteralBytes.{complement_placed, placed_lit}
 use Rattle.sheet.specs.Enums.{lit}
 use Rattle.sheet.specs.Layout.{byte}
 use Rattle.sheet.specs.Literals.{Lit, literal, complement}
 use Rattle.sheet.specs.declared.literal.Literal.{Literal}
 use Rattle.walk.proofs.Exits.{visit_due, visit_refused, out_refused, out_closed, out_full, out_first, out_second, order_next, order_end}
-use Rattle.walk.proofs.Sets.{lit_placed, stand_child}
+use Rattle.walk.proofs.Sets.{stand_child}
 use Rattle.walk.proofs.test.Test.+seek.Goals as goal
 use Rattle.walk.specs.Carried.{Stand, TellsClosed, TellsTest, meet_part, test_below, told, order_from}
 use Rattle.walk.specs.declared.test.Test.{Test}
@@ -59,7 +59,7 @@ module _ (t : Test) (depth : ℕ) (node : Literals) (steps : ℕ) where
           (made : (ls : List Lit) → node ≡ sets_of ls → child ≡ sets_of (lit l ∷ ls)) (first : Tried) (f : TellsTest t (depth + 1) child (steps + 1) first) where
         module _ (cs : List (List Lit)) (us w : List Lit) (st : Stand cs us w t.network.clauses.now t.ban node) where
           first_walked : told first ≡ below cs us (order_from (depth + 1) t.network) (w ++ (lit l ∷ [])) (steps + 1)
-          first_walked = f cs us (w ++ (lit l ∷ [])) (stand_child st (lit l) (lit_placed l) (made w st.made))
+          first_walked = f cs us (w ++ (lit l ∷ [])) (stand_child st (lit l) (placed_lit l) (made w st.made))
 
           order_left : below cs us (order_from depth t.network) w steps ≡ below cs us (lit l ∷ order_from (depth + 1) t.network) w steps
           order_left = ap (λ (ls : List Lit). below cs us ls w steps) (order_next t.network depth h at)
@@ -77,7 +77,7 @@ module _ (t : Test) (depth : ℕ) (node : Literals) (steps : ℕ) where
             → ((ls : List Lit) → node ≡ sets_of ls → other ≡ sets_of (k ∷ ls)) → (r : Tried) → TellsTest t (depth + 1) other n r → Here r
         goes_on e ek other_made r g cs us w st =
             g cs us (w ++ (complement (lit l) ∷ []))
-            (stand_child st (complement (lit l)) (complement_placed (lit l) (lit_placed l)) (other_made w st.made ∙ ap (λ (x : Lit). sets_of (x ∷ w)) ek))
+            (stand_child st (complement (lit l)) (complement_placed (lit l) (placed_lit l)) (other_made w st.made ∙ ap (λ (x : Lit). sets_of (x ∷ w)) ek))
             ∙ sym (order_left cs us w st
             ∙ out_second (visit spent _) (meet_part _ _) (falsified (map unit us ++ cs)) w (visit_due spent _ _ due) (lit l) _
             (is_open cs us w st) (first_walked cs us w st) e)
@@ -88,8 +88,8 @@ returns-then-self-steps-clause-tells_test t c = refused c.args.self.now c.args.d
 pub returns-then-closed-clause-tells_test : goal.returns-then-closed-clause-tells_test
 returns-then-closed-clause-tells_test t c = node_closed c.args.self.now c.args.depth c.args.node _ c.if-self-steps.false c.closed.ensures c.if-closed.true
 
-pub returns-then-len-depth-clause-tells_test : goal.returns-then-len-depth-clause-tells_test
-returns-then-len-depth-clause-tells_test t c =
+pub returns-then-self-depth-clause-tells_test : goal.returns-then-self-depth-clause-tells_test
+returns-then-self-depth-clause-tells_test t c =
     node_full c.args.self.now c.args.depth c.args.node _ c.if-self-steps.false c.closed.ensures c.if-closed.false (omega arith) _ c.meet.ensures.0
 
 pub returns-in-Missed-clause-tells_test : goal.returns-in-Missed-clause-tells_test
