@@ -14,14 +14,14 @@ refusal_number (Sheet refusal) = number_of refusal
 refusal_number NoLiteral = 16
 refusal_number ShortWitness = 17
 
--- "1 yes, 2 no"; 18 and 19 where the walk is cut off
+-- 1, "yes"; 2, "no"; 18, "another visit is due and steps equal the allowance"; 19, "a test finds a part and no store place is free"
 abbrev pub verdict_number : Verdict → ℕ
 verdict_number Yes = 1
 verdict_number No = 2
 verdict_number OutOfSteps = 18
 verdict_number OutOfPlaces = 19
 
--- "a code and three counts": a refusal before the walk has the counts 0, 0, 0
+-- "It returns a code and three counts": those "of the walk", or with a refusal before it "0, 0, 0"
 abbrev pub numbers_of : Result Reply Refusal → Numbers
 numbers_of (Ok r) = reply_of (verdict_number r.verdict) r.steps r.tests r.stored
 numbers_of (Err refusal) = reply_of (refusal_number refusal) 0 0 0
