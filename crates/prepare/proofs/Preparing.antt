@@ -44,6 +44,12 @@ few_objectives s ok = let p = (passed s ok).sized in omega (arith, objective_byt
 -- ---- what its tables are to a walk
 
 module _ {s order : List ℕ} {sets : List Literals} (t : Tables s order sets) where
+  pub order_counted : length order ≡ atom_count s
+  order_counted = ap length t.order ∙ branch_counted s t.accepted
+
+  pub sets_counted : length sets ≡ clause_count s
+  sets_counted = ap length t.clauses ∙ as_clauses s
+
   pub order_literals : all (is_literal 64) order ≡ true
   order_literals =
       ap (all (is_literal 64)) t.order ∙ all_in (is_literal 64) (map byte_of (branch (sheet_of s))) (branch_literal s t.accepted)

@@ -72,15 +72,17 @@ module _ (w : Walked) (n : ℕ) (before after witness : List ℕ) (on : Onward 0
   all_stored : length (take w.stored after) ≡ w.stored
   all_stored = length-take-le w.stored after on.bounded.room
 
-  -- the counts and the first n witness bytes are as the code finishes
-  pub walk_leaves : {counts : Numbers} {first : List ℕ} → n ≤ length witness → counts ≡ reply_of (code_of (answer_of w.ending)) w.steps w.tests w.stored
-      → first ≡ witnessed (answer_of w.ending) (length (take n witness)) (take n witness)
-      → outcome counts after (first ++ drop n witness) ≡ after_walk n (run_of w after) before witness
-  walk_leaves room told shown =
-      let x = answer_of w.ending in
+  pub walk_leaves : outcome (reply_of (code_of (answer_of w.ending)) w.steps w.tests w.stored) after (witnessed (answer_of w.ending) n witness) ≡ after_walk n (run_of w after) before witness
+  walk_leaves =
       let is = ends_as w.ending (state_of w after) in
       let filled = sym (take-append-drop w.stored after) ∙ ap (λ (l : List ℕ). take w.stored after ++ l) (on.rest ∙ ap (λ (k : ℕ). drop k before) (sym all_stored)) in
-      let beside = ap (λ (l : List ℕ). l ++ drop n witness) shown ∙ witnessed_first x witness n room in
-      (λ i. outcome (told i) after (beside i))
-      ∙ (λ i. outcome (reply_of (code_of x) w.steps w.tests (sym all_stored i)) (filled i) (witnessed x n witness))
+      (λ i. outcome (reply_of (code_of (answer_of w.ending)) w.steps w.tests (sym all_stored i)) (filled i) (witnessed (answer_of w.ending) n witness))
       ∙ (λ i. outcome (reply_of (code_of (is.0 i)) (is.1 i).steps (is.1 i).tests (length (is.1 i).stored)) (over (is.1 i).stored before) (witnessed (is.0 i) n witness))
+
+  -- the same by the counts and the first n witness bytes, as the code finishes them
+  pub finish_leaves : {counts : Numbers} {first : List ℕ} → n ≤ length witness → counts ≡ reply_of (code_of (answer_of w.ending)) w.steps w.tests w.stored
+      → first ≡ witnessed (answer_of w.ending) (length (take n witness)) (take n witness)
+      → outcome counts after (first ++ drop n witness) ≡ after_walk n (run_of w after) before witness
+  finish_leaves room told shown =
+      let beside = ap (λ (l : List ℕ). l ++ drop n witness) shown ∙ witnessed_first (answer_of w.ending) witness n room in
+      (λ i. outcome (told i) after (beside i)) ∙ walk_leaves

@@ -1,5 +1,5 @@
 -- A byte's number, its sign and its distance from zero, as the code finds them, and the literal that they give. Assumes nothing.
-use Rattle.std.proofs.Common.{ℕ, suc, ◌≤◌, ◌<◌, Bool, true, false, cond, ltb, ℤ, pos, negsuc, ◌-ℤ◌, int_lt, nat_abs, to_z, of_z, w8, Some, None, ◌≡◌, refl, sym, ap, ◌∙◌, subst, arith, zero-le, zero-add, true≢false, ltb-true, ltb-false, lt-ltb, le-ltb}
+use Rattle.std.proofs.Common.{ℕ, suc, ◌≤◌, ◌<◌, Bool, true, false, cond, ltb, ℤ, pos, negsuc, ◌-ℤ◌, int_lt, nat_abs, to_z, of_z, w8, Option, Some, None, ◌≡◌, refl, sym, ap, ◌∙◌, subst, arith, zero-le, zero-add, true≢false, ltb-true, ltb-false, lt-ltb, le-ltb}
 use lib.Dec.{T}
 use lib.Signed.{non_neg}
 use mir.Val.{Fits}
@@ -43,22 +43,25 @@ distance_fits e h =
 
 -- ---- the answer by the literal of the byte's number
 
+abbrev pub answer_by_number : ℕ → ℤ → Option Lit
+answer_by_number n z = cond (between 1 n (atom (of_number z))) (Some (of_number z)) None
+
 module _ (n b : ℕ) (few : n ≤ 64) (small : b < 256) {v : ℤ} (is : v ≡ signed b) where
-  by_number : {x : Bool} → between 1 n (atom (of_number v)) ≡ x → cond x (Some (of_number v)) None ≡ literal_in n b
+  pub by_number : answer_by_number n v ≡ literal_in n b
   unfolding literal
-  by_number e =
-      ap (λ (x : Bool). cond x (Some (of_number v)) None) (sym e)
-      ∙ ap (λ (z : ℤ). cond (between 1 n (atom (of_number z))) (Some (of_number z)) None) is
-      ∙ ap (λ (x : Bool). cond x (Some (literal b)) None) (sym (literal_atom n b few small))
+  by_number = ap (answer_by_number n) is ∙ ap (λ (x : Bool). cond x (Some (literal b)) None) (sym (literal_atom n b few small))
+
+  by_test : {x : Bool} → between 1 n (atom (of_number v)) ≡ x → cond x (Some (of_number v)) None ≡ literal_in n b
+  by_test e = ap (λ (x : Bool). cond x (Some (of_number v)) None) (sym e) ∙ by_number
 
   pub too_near : atom (of_number v) < 1 → None ≡ literal_in n b
-  too_near h = by_number (between_below 1 n (atom (of_number v)) h)
+  too_near h = by_test (between_below 1 n (atom (of_number v)) h)
 
   pub too_far : n < atom (of_number v) → None ≡ literal_in n b
-  too_far h = by_number (between_past 1 n (atom (of_number v)) h)
+  too_far h = by_test (between_past 1 n (atom (of_number v)) h)
 
   -- the literal by the sign and the distance d
   pub found : (d : ℤ) → atom (of_number v) ≡ nat_abs d → (nat_abs d ≡ 0 → ⊥) → nat_abs d ≤ n
       → Some (cond (int_lt (pos 0) v) (Lit.pos (nat_abs d)) (Lit.neg (nat_abs d))) ≡ literal_in n b
   found d e some near =
-      ap Some (sym (away_literal v d e some)) ∙ by_number (between_holds 1 n (atom (of_number v)) (omega arith) (omega arith))
+      ap Some (sym (away_literal v d e some)) ∙ by_test (between_holds 1 n (atom (of_number v)) (omega arith) (omega arith))

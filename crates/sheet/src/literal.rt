@@ -38,11 +38,16 @@ impl Literal {
     }
 
     /// The literal of a byte that is one.
+    // Not by `read`: a walk asks this of each objective at each full node, and the checks of a byte that is known to be a literal would be made there again.
     pub fn of(b: u8) -> Literal
         requires { is_literal 64 b ≡ true }
         ensures { lit result ≡ literal b }
     {
-        Literal::read(b, 64).unwrap()
+        let plain = b < 128;
+        Literal {
+            plain,
+            atom: if plain { b } else { b.wrapping_neg() },
+        }
     }
 
     pub fn complement(self) -> Literal

@@ -1,9 +1,10 @@
 -- What a candidate does, as the code carries it: the ban of its test, the stored parts, and how the walk goes on. Assumes nothing.
-use Rattle.std.proofs.Common.{ℕ, Bool, cond, ◌+◌, ◌-◌, ◌≤◌, ◌<◌, true, false, List, [], ◌∷◌, map, ◌≡◌, refl, sym, ap, ◌∙◌, subst, arith, add-one, length, take, drop, ⊎_elim, set, le_trans, drop-drop, length-take-le, take-suc-set, lt-ltb, le-ltb}
+use Rattle.std.proofs.Common.{ℕ, Bool, cond, ◌+◌, ◌-◌, ◌≤◌, ◌<◌, true, false, List, [], ◌∷◌, map, ◌≡◌, refl, sym, ap, ◌∙◌, subst, arith, add-one, length, take, drop, ⊎_elim, set, le_trans, le_of_eq, drop-drop, drop_of_length-le, length-take-le, take-suc-set, lt-ltb, le-ltb}
 use Rattle.std.proofs.lemmas.List.{drop_more}
 use mathlib.Core.List.Memᴰ.{cases_cons, eq_of_singleton, of_map}
 use mathlib.Core.List.{Memᴰ as Mem}
-use Rattle.prepare.specs.Carried.{Placed}
+use Rattle.prepare.proofs.SetLaws.{no_literals}
+use Rattle.prepare.specs.Carried.{sets_of, Placed}
 use Rattle.search.specs.Grown.{game, posed}
 use Rattle.search.specs.Models.{holds, part}
 use Rattle.search.specs.Search.{State, Yes, Cut, NoPlace, spent, found, with_steps, with_test, with_part, store, settle, meet, test, judge}
@@ -37,6 +38,9 @@ abbrev pub banned_from : List ℕ → ℕ → ℕ → List Lit
 banned_from os m i = banned (drop i os) m
 
 module _ (os : List ℕ) (m : ℕ) where
+  pub banned_none : record { plains = 0; negated = 0 } ≡ sets_of (banned_from os m (length os))
+  banned_none = no_literals refl refl ∙ ap (λ (l : List ℕ). sets_of (banned l m)) (sym (drop_of_length-le os (le_of_eq refl)))
+
   -- one objective further back
   pub banned_back : (i : ℕ) {b : Bool} → 0 < i → i ≤ length os → holds m (literal (byte os (i - 1))) ≡ b
       → banned_from os m (i - 1) ≡ cond b (complement (literal (byte os (i - 1))) ∷ banned_from os m i) (banned_from os m i)

@@ -1,6 +1,6 @@
 -- Tests over lists, one entry after the other, as a loop goes through them. Assumes nothing.
-use Rattle.std.proofs.Common.{ℕ, zero, suc, ◌+◌, ◌-◌, ◌≤◌, ◌<◌, Bool, true, false, List, [], ◌∷◌, ◌++◌, map, ⊎_elim, ◌≡◌, refl, sym, ap, ◌∙◌, subst, eq-or-lt_of_le, le_of_suc-le-suc, add-one, arith, length, get_or, drop, set, drop_of_length-le}
-use Rattle.std.proofs.lemmas.List.{drop_more, length_push, map-append, get_or_at, set_at}
+use Rattle.std.proofs.Common.{ℕ, zero, suc, ◌+◌, ◌-◌, ◌≤◌, ◌<◌, Bool, true, false, List, [], ◌∷◌, ◌++◌, map, ⊎_elim, ◌≡◌, refl, sym, ap, ◌∙◌, subst, eq-or-lt_of_le, le_of_suc-le-suc, add-one, arith, length, get_or, take, drop, set, drop_of_length-le}
+use Rattle.std.proofs.lemmas.List.{drop_more, length_push, length-take, map-append, get_or_at, set_at}
 use Rattle.std.proofs.Math.ListN.{get_or-append}
 use Rattle.std.proofs.Math.Seq.{append_snoc}
 use Rattle.words.specs.Lists.{any, all, over, below}
@@ -63,6 +63,10 @@ module _ (f : ℕ → Bool) (n i : ℕ) where
 
   pub all_numbers_end : n ≤ i → all f (drop i (below n)) ≡ true
   all_numbers_end h = all_end f 0 (below n) i (past_below h)
+
+-- what can be taken whole is there
+pub taken_fits : {A : Type 0} (n : ℕ) (xs : List A) → length (take n xs) ≡ n → n ≤ length xs
+taken_fits n xs e = omega (arith, length-take n xs, e)
 
 -- ---- a list that is filled from the front
 

@@ -3,7 +3,7 @@ use Rattle.std.proofs.Common.{ℕ, Bool, true, not, List, Err, ◌≡◌, length
 use Rattle.std.proofs.lemmas.Result.{err_from_is_err_and}
 use Rattle.prepare.proofs.Preparing.{prepared}
 use Rattle.query.proofs.Checking.{accepted_checked}
-use Rattle.query.proofs.Leaving.{walk_leaves}
+use Rattle.query.proofs.Leaving.{finish_leaves}
 use Rattle.query.proofs.Promises.{as_checked}
 use Rattle.query.proofs.ask.Goals as goal
 use Rattle.query.proofs.ask.Goals.{After-atoms-n, In_ok-asked}
@@ -70,7 +70,7 @@ returns c =
     let w = c.walk_all-walked in
     let walked = w.ensures.tells_searched (sheet_of s) (prepared t net.order net.objectives net.clauses)
     ∙ ap (λ (l : Lit). searched (posed (sheet_of s) l) a.allowance (length a.store.now)) (sym found.1) in
-    let leaves = walk_leaves w.result _ a.store.now w.new.store a.witness.now w.ensures.onward (omega arith) c.finish.ensures.reply c.finish.ensures.witness in
+    let leaves = finish_leaves w.result _ a.store.now w.new.store a.witness.now w.ensures.onward (omega arith) c.finish.ensures.reply c.finish.ensures.witness in
     let k = as_checked s a.question a.allowance a.store.now a.witness.now (understood (sheet_of s))
     (leaves ∙ (λ i. after_walk ((c.from-atoms.ensures ∙ n ∙ sym (atoms_are s)) i) (walked i) a.store.now a.witness.now))
     (accepted_checked s a.question (length a.witness.now) t.accepted (none_asked s a.question n found.0) room) in
