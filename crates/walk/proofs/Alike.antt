@@ -1,9 +1,11 @@
--- The contracts of what is asked of a node or a model, and that of the test, determine their results. The last two speak of whatever the words stand
--- for, so they rest on that the words stand for something; words need not stand for a sheet, and the contracts of the candidate walk, which speak of
--- one, determine nothing where they do not. Assumes nothing.
-use Rattle.std.proofs.Common.{ℕ, ◌≤◌, List, [], ◌∷◌, map, ◌≡◌, refl, sym, ap, ap₂, ◌∙◌, subst}
+-- The contracts of what is asked of a node or a model, and those of the test, determine their results. Those of `closed` and `seek` speak of whatever
+-- the words stand for, so they rest on that the words stand for something; words need not stand for a sheet, and the contracts of the candidate walk,
+-- which speak of one, determine nothing where they do not. Assumes nothing.
+use Rattle.std.proofs.Common.{ℕ, ◌≤◌, ◌<◌, ◌^◌, List, [], ◌∷◌, map, ◌≡◌, refl, sym, ap, ap₂, ◌∙◌, subst}
+use mathlib.Core.HLevel.{is_prop→PathP}
 use mathlib.Core.List.Memᴰ.{of_map}
 use mathlib.Core.List.{Memᴰ as Mem}
+use Rattle.std.proofs.Math.Bridge.{le_prop}
 use Rattle.prepare.proofs.Standing.{Fitting, fitting, standing, standing_clauses}
 use Rattle.prepare.specs.Carried.{sets_of}
 use Rattle.prepare.specs.declared.clauses.Literals.{Literals}
@@ -18,6 +20,8 @@ use Rattle.walk.proofs.node.holds.Kinds as holds_kinds
 use Rattle.walk.proofs.node.holds.Reads as holds
 use Rattle.walk.proofs.node.part_of.Kinds as part_of_kinds
 use Rattle.walk.proofs.node.part_of.Reads as part_of
+use Rattle.walk.proofs.test.Test.new.Kinds as new_kinds
+use Rattle.walk.proofs.test.Test.new.Reads as new_test
 use Rattle.walk.proofs.test.Test.seek.Kinds as seek_kinds
 use Rattle.walk.proofs.test.Test.seek.Reads as seek
 use Rattle.walk.specs.Carried.{Stand, told}
@@ -65,6 +69,21 @@ pub closed_alike : Determines closed_kinds.ps closed_kinds.r (λ κs a. closed.P
 closed_alike κs a good pre x y v w p q = (stood pre.1 (fitting _ good.1.0) (fitting _ good.1.1.0) p q, refl)
 
 -- ---- the test
+
+-- a test is known by its four parts: what it says of its ban has one proof
+pub new_alike : Determines new_kinds.ps new_kinds.r new_test.Pre new_test.Post (λ κs x. x)
+new_alike κs a good pre x y v w p q =
+    let b : x.ban ≡ y.ban = p.1.0 ∙ sym q.1.0 in (
+      λ i.
+          record {
+            network = (p.0 ∙ sym q.0) i;
+            ban = b i;
+            candidate = (p.1.1.0 ∙ sym q.1.1.0) i;
+            allowance = (p.1.1.1 ∙ sym q.1.1.1) i;
+            words = is_prop→PathP (λ j. ((b j).plains < 2 ^ 64) × ((b j).negated < 2 ^ 64)) (λ j u v k. (le_prop u.0 v.0 k, le_prop u.1 v.1 k)) x.words y.words i;
+          },
+      refl,
+    )
 
 abbrev untold : Run ℕ Stop → Tried
 untold (on n) = Missed n

@@ -114,12 +114,8 @@ impl Search<'_> {
         if passed_over(&store[..w.stored], part) {
             return w;
         }
-        let test = Test {
-            network,
-            ban: ban_of(network.objectives, model, self.question),
-            candidate: part,
-            allowance: self.allowance,
-        };
+        let ban = ban_of(network.objectives, model, self.question);
+        let test = Test::new(network, ban, part, self.allowance);
         let tried = test.seek(0, Literals::default(), w.steps);
         let tested = Walked {
             tests: w.tests + 1,

@@ -25,8 +25,23 @@ pub struct Test<'a> {
     pub ghost words: { (ban.plains < 2 ^ 64) × (ban.negated < 2 ^ 64) },
 }
 
-impl Test<'_> {
+impl<'a> Test<'a> {
     ghost use Rattle.walk.specs.Carried.{meet_part, told, steps_of, TellsTest};
+
+    /// The test of a candidate, with any two words as its ban.
+    pub fn new(network: Network<'a>, ban: Literals, candidate: u64, allowance: u64) -> Test<'a>
+        ensures network { result.network ≡ network.entry }
+        ensures ban { result.ban ≡ ban }
+        ensures candidate { result.candidate ≡ candidate }
+        ensures allowance { result.allowance ≡ allowance }
+    {
+        Test {
+            network,
+            ban,
+            candidate,
+            allowance,
+        }
+    }
 
     /// A full node of the test: it is found if its part strictly contains the candidate's.
     fn meet(&self, model: u64, steps: u64) -> Tried

@@ -1,5 +1,5 @@
 -- The scan is the pass-over rule, the call is the test, and settling is that of the definition. Assumes nothing.
-use Rattle.std.proofs.Common.{◌≡◌, ℕ, [], ◌∷◌, map, length, refl, sym, ap, ◌∙◌, Option}
+use Rattle.std.proofs.Common.{◌≡◌, ℕ, [], ◌∷◌, map, length, refl, sym, ap, ◌∙◌, subst, Option}
 use mathlib.Core.List.Memᴰ.{not-nil}
 use Rattle.prepare.proofs.SetLaws.{no_literals}
 use Rattle.prepare.specs.Carried.{Prepared}
@@ -31,17 +31,19 @@ pub returns-clause-tells_judged : goal.returns-clause-tells_judged
 returns-clause-tells_judged c x is =
     let a = c.args in
     let g = a.self.now in
+    let test = c.new-test.ensures in
     let us = complement (lit g.question) ∷ pick (holds a.model) (map literal g.network.objectives.bytes.now) in
     let its = its_part x g.network a.model is c.part_of-part.ensures in
+    let read : Prepared x c.new-test.result.network = subst (Prepared x) (sym test.network) is in
     c.settle.ensures.tells_settled (with_test (state_of a.w a.store.now)) refl refl
     ∙ ap (settle (length a.store.now) a.model (with_test (state_of a.w a.store.now)))
     (c.seek-tried.ensures.tells_test x.clauses us []
     (record {
-      clauses = is.clauses;
-      banned = c.ban_of.ensures;
+      clauses = read.clauses;
+      banned = test.ban ∙ c.ban_of-ban.ensures;
       conditions = conditions_placed g.network.objectives a.model g.question;
       made = no_literals c.default.ensures.0 c.default.ensures.1;
       decided = λ l h. absurd (not-nil h);
     })
-    ∙ (λ i. test_below x.clauses (complement (lit g.question) ∷ pick (holds a.model) (is.objectives i)) (is.objectives i) (is.order i) [] (its i) g.allowance a.w.steps))
+    ∙ (λ i. test_below x.clauses (complement (lit g.question) ∷ pick (holds a.model) (is.objectives i)) (read.objectives i) (read.order i) [] ((test.candidate ∙ its) i) (test.allowance i) a.w.steps))
     ∙ sym (judge_tests x (lit g.question) g.allowance (length a.store.now) a.model (state_of a.w a.store.now) its (sym c.passed_over.ensures ∙ c.if-passed_over.false))
