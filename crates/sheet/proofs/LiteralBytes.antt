@@ -1,5 +1,5 @@
 -- The code's literals and the document's, literal bytes, complements, and the byte of a literal. Assumes nothing.
-use Rattle.std.proofs.Common.{ℕ, ◌-◌, ◌≤◌, ◌<◌, Bool, true, false, cond, List, [], ◌∷◌, map, length, Option, Some, None, option_map, is_some, IsSome, ◌≡◌, refl, sym, ap, ap₂, ◌∙◌, lit≤, arith, ⊎_elim, ltb, lt-ltb, le-ltb}
+use Rattle.std.proofs.Common.{ℕ, ◌-◌, ◌≤◌, ◌<◌, Bool, true, false, cond, List, [], ◌∷◌, map, length, Option, Some, None, option_map, is_some, IsSome, ◌≡◌, refl, sym, ap, ap₂, ◌∙◌, lit≤, arith, ⊎_elim}
 use Rattle.std.proofs.lemmas.Bool.{or_cases}
 use mathlib.Core.HLevel.{is_prop→PathP}
 use mathlib.Core.List.Memᴰ.{head, tail}
@@ -68,23 +68,6 @@ halves b e =
     ⊎_elim (λ h. let p = between_says 1 64 b h in low (literal_low b (omega arith)) p.0 p.1)
     (λ h. let p = between_says 192 255 b h in high (literal_high b (omega arith) (omega arith)) p.0 (omega arith))
     (or_cases (between 1 64 b) (between 192 255 b) e)
-
--- the literal by the half that its byte is in
-pub by_half : (b : ℕ) {a : ℕ} → is_literal 64 b ≡ true → a ≡ cond (ltb b 128) b (256 - b) → (1 ≤ a × a ≤ 64) × (cond (ltb b 128) (pos a) (neg a) ≡ literal b)
-by_half b {a} e is = go (halves b e)
-  where
-    half : {x : Bool} → ltb b 128 ≡ x → a ≡ cond x b (256 - b)
-    half t = is ∙ ap (λ (x : Bool). cond x b (256 - b)) t
-
-    go : Halves b → (1 ≤ a × a ≤ 64) × (cond (ltb b 128) (pos a) (neg a) ≡ literal b)
-    go (low l some few) =
-        let t = lt-ltb b 128 (omega arith) in
-        let same = half t in
-        (omega (arith, same), (λ i. cond (t i) (pos (same i)) (neg (same i))) ∙ sym l)
-    go (high l some few) =
-        let t = le-ltb b 128 (omega arith) in
-        let same = half t in
-        (omega (arith, same), (λ i. cond (t i) (pos (same i)) (neg (same i))) ∙ sym l)
 
 pub in_atoms : (b : ℕ) → is_literal 64 b ≡ true → (1 ≤ atom (literal b)) × (atom (literal b) ≤ 64)
 in_atoms b e = between_says 1 64 (atom (literal b)) (sym (literal_atom 64 b (lit≤ tt) (literal_small 64 b (lit≤ tt) e)) ∙ e)

@@ -1,11 +1,13 @@
 -- A byte's number, its sign and its distance from zero, as the code finds them, and the literal that they give. Assumes nothing.
-use Rattle.std.proofs.Common.{ℕ, suc, ◌≤◌, ◌<◌, Bool, true, false, cond, ltb, ℤ, pos, negsuc, ◌-ℤ◌, int_lt, nat_abs, to_z, of_z, w8, Option, Some, None, ◌≡◌, refl, sym, ap, ◌∙◌, subst, arith, zero-le, zero-add, true≢false, ltb-true, ltb-false, lt-ltb, le-ltb}
+use Rattle.std.proofs.Common.{ℕ, zero, suc, FitsSigned, ◌≤◌, ◌<◌, Bool, true, false, cond, ltb, ℤ, pos, negsuc, ◌-ℤ◌, int_lt, nat_abs, to_z, of_z, w8, Option, Some, None, ◌≡◌, refl, sym, ap, ◌∙◌, subst, arith, zero-le, zero-add, true≢false, ltb-true, ltb-false, lt-ltb, le-ltb}
 use lib.Dec.{T}
 use lib.Signed.{non_neg}
 use mir.Val.{Fits}
+use Rattle.std.proofs.lemmas.Int.{ints, to_z-of_z}
+use Rattle.sheet.proofs.LiteralBytes.{in_atoms}
 use Rattle.sheet.proofs.Literals.{signed_low, signed_high, literal_atom, between_holds, between_below, between_past}
 use Rattle.sheet.specs.Enums.{literal_in}
-use Rattle.sheet.specs.Literals.{Lit, atom, signed, of_number, literal, between}
+use Rattle.sheet.specs.Literals.{Lit, atom, signed, of_number, literal, is_literal, between}
 
 -- the library's number of a byte is the document's
 pub number_signed : (b : ℕ) → b < 256 → to_z w8 b ≡ signed b
@@ -14,6 +16,10 @@ number_signed b h = go (ltb b 128) refl
     go : (x : Bool) → ltb b 128 ≡ x → to_z w8 b ≡ signed b
     go true e = rw e (sym (signed_low b (ltb-true b 128 e)))
     go false e = rw e (sym (signed_high b (ltb-false b 128 e) h))
+
+-- the same of the number as the code keeps it
+pub kept_number : (b : ℕ) → b < 256 → {v : ℤ} → FitsSigned w8 v → v ≡ to_z w8 b → to_z w8 (of_z w8 v) ≡ signed b
+kept_number b small {v} fits is = to_z-of_z w8 v fits ∙ is ∙ number_signed b small
 
 -- d is the number v without its sign, as far as it was told from v's side of zero
 pub data Away (v d : ℤ) : Type 0 where
@@ -40,6 +46,41 @@ least_far (negsuc k) e = omega arith
 pub distance_fits : {x : ℤ} {k : ℕ} → x ≡ pos (suc k) → k < 127 → T (non_neg x) × Fits w8 (nat_abs x)
 distance_fits e h =
     (subst (λ (x : ℤ). T (non_neg x)) (sym e) tt, subst (λ (x : ℤ). Fits w8 (nat_abs x)) (sym e) (record { fits = omega arith }))
+
+-- ---- the number of a byte that is a literal
+
+module _ (b : ℕ) (is : is_literal 64 b ≡ true) {v : ℤ} (number : v ≡ signed b) where
+  literal_number : of_number v ≡ literal b
+  unfolding literal
+  literal_number = ap of_number number
+
+  near : (1 ≤ atom (of_number v)) × (atom (of_number v) ≤ 64)
+  near = subst (λ (l : Lit). (1 ≤ atom l) × (atom l ≤ 64)) (sym literal_number) (in_atoms b is)
+
+  -- it has a negation
+  pub near_fits : FitsSigned w8 (pos 0 -ℤ v)
+  near_fits = go v near.1
+    where
+      go : (v : ℤ) → atom (of_number v) ≤ 64 → FitsSigned w8 (pos 0 -ℤ v)
+      go (pos k) h = omega (arith, ints)
+      go (negsuc k) h = omega (arith, ints)
+
+  module _ (d : ℤ) (away : Away v d) where
+    pub away_placed : (1 ≤ nat_abs d) × (nat_abs d ≤ 64)
+    away_placed = subst (λ (a : ℕ). (1 ≤ a) × (a ≤ 64)) (away_atom v d away) near
+
+    pub away_fits : T (non_neg d) × Fits w8 (nat_abs d)
+    away_fits = go v d away near
+      where
+        go : (v d : ℤ) → Away v d → (1 ≤ atom (of_number v)) × (atom (of_number v) ≤ 64) → T (non_neg d) × Fits w8 (nat_abs d)
+        go (pos zero) d a r = absurd (omega arith)
+        go (pos (suc k)) d (below lt e) r = absurd (true≢false (sym lt ∙ le-ltb (suc k) 0 zero-le))
+        go (pos (suc k)) d (above lt e) r = distance_fits e (omega arith)
+        go (negsuc k) d (below lt e) r = distance_fits (e ∙ ap pos (zero-add (suc k))) (omega arith)
+        go (negsuc k) d (above lt e) r = absurd (true≢false lt)
+
+    pub away_is : cond (int_lt (pos 0) v) (Lit.pos (nat_abs d)) (Lit.neg (nat_abs d)) ≡ literal b
+    away_is = sym (away_literal v d (away_atom v d away) (λ e. let p = away_placed.0 in absurd (omega (arith, e)))) ∙ literal_number
 
 -- ---- the answer by the literal of the byte's number
 

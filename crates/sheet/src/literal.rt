@@ -38,15 +38,15 @@ impl Literal {
     }
 
     /// The literal of a byte that is one.
-    // Not by `read`: a walk asks this of each objective at each full node, and the checks of a byte that is known to be a literal would be made there again.
+    // Not by `read`, though by the same number: a walk asks this of each objective at each full node, where all that `read` refuses, -128 too, is ruled out already.
     pub fn of(b: u8) -> Literal
         requires { is_literal 64 b ≡ true }
         ensures { lit result ≡ literal b }
     {
-        let plain = b < 128;
+        let number = b.cast_signed();
         Literal {
-            plain,
-            atom: if plain { b } else { b.wrapping_neg() },
+            plain: 0 < number,
+            atom: if number < 0 { -number } else { number } as u8,
         }
     }
 

@@ -1,7 +1,7 @@
 -- `sheet::literal::Literal::read`: each number is too far from zero or too near, or its sign and its distance are the literal's. Assumes nothing.
 use Rattle.std.proofs.Common.{◌≡◌, to_z, of_z, w8, nat_abs, ⊎_elim, ◌∙◌, arith}
-use Rattle.std.proofs.lemmas.Int.{ints, to_z-of_z}
-use Rattle.sheet.proofs.Numbers.{below, above, number_signed, least_far, away_atom, found, too_near, too_far}
+use Rattle.std.proofs.lemmas.Int.{ints}
+use Rattle.sheet.proofs.Numbers.{below, above, number_signed, kept_number, least_far, away_atom, found, too_near, too_far}
 use Rattle.sheet.proofs.literal.Literal.read.Goals as goal
 use Rattle.sheet.proofs.literal.Literal.read.Goals.{Joined-v-lt0, then-v-lt0, else-v-lt0}
 use Rattle.sheet.specs.Literals.{atom, signed, of_number}
@@ -13,7 +13,7 @@ returns-then-v c =
 
 -- the number as the code has it, and the distance by both ways in which it was found
 number : (c : Joined-v-lt0) → to_z w8 (of_z w8 c.cast_signed-v.result) ≡ signed c.args.b
-number c = to_z-of_z w8 c.cast_signed-v.result (record { sfits = c.cast_signed-v.type_inv }) ∙ c.cast_signed-v.ensures ∙ number_signed _ c.ranges.b.fits
+number c = kept_number c.args.b c.ranges.b.fits (record { sfits = c.cast_signed-v.type_inv }) c.cast_signed-v.ensures
 
 distance : (c : Joined-v-lt0) → atom (of_number (to_z w8 (of_z w8 c.cast_signed-v.result))) ≡ nat_abs (to_z w8 c.if-v-lt0.distance-bits)
 distance c =
